@@ -1,0 +1,50 @@
+-- Document 01, "Numbered answers": the tests 1 to 6, each over all tasks before the next.
+-- Assumes nothing.
+use Prim.Native.Nat.{ℕ, _+_, _*_, _/_, _^_}
+use mathlib.Core.Bool.{Bool, true, false, cond, not, _||_}
+use mathlib.Core.List.{List}
+use lib.Dec.{eqb, ltb}
+use lib.ListN.{length}
+use Rattle.rules.specs.Sizes.{maxFrame, maxCores, maxTasks}
+use Rattle.rules.specs.Sum.{firstAt}
+use Rattle.rules.specs.Piece.{wholePieces}
+use Rattle.rules.specs.declared.Answer.{Answer}
+use Rattle.rules.specs.declared.Answer.the-variants.{FrameLength, CoreCount, TaskCount, Mask, Budget, ShortTable}
+
+-- 1: "F is 0 or above 1,000,000"
+unfoldable pub badFrame : ℕ → Bool
+badFrame F = eqb F 0 || ltb maxFrame F
+
+-- 2: "m is 0 or above 16"
+unfoldable pub badCores : ℕ → Bool
+badCores m = eqb m 0 || ltb maxCores m
+
+-- 3: "more than 64 tasks, or budgets and masks differ in number"
+unfoldable pub badTasks : List ℕ → List ℕ → Bool
+badTasks budgets masks = ltb maxTasks (length budgets) || not (eqb (length budgets) (length masks))
+
+-- 4: a mask that "is empty or has a bit at or above m": shifted right by m something is left
+unfoldable pub badMask : ℕ → ℕ → Bool
+badMask m mask = eqb mask 0 || not (eqb (mask / 2 ^ m) 0)
+
+-- 5: a budget "above F"
+unfoldable pub badBudget : ℕ → ℕ → Bool
+badBudget F budget = ltb F budget
+
+-- 6: "lent table holds fewer than n + 2 × m − 1 pieces"
+unfoldable pub shortTable : ℕ → ℕ → ℕ → Bool
+shortTable n m room = ltb (room + 1) (n + 2 * m)
+
+-- what the tests 1 to 6 say: a refusal, or that the search for an allocation decides
+pub data Tested : Type 0 where
+  refused : Answer → Tested
+  passed : Tested
+
+unfoldable pub tested : ℕ → ℕ → List ℕ → List ℕ → List ℕ → Tested
+tested F m budgets masks table =
+    cond (badFrame F) (refused FrameLength)
+    (cond (badCores m) (refused CoreCount)
+    (cond (badTasks budgets masks) (refused TaskCount)
+    (cond (ltb (firstAt (badMask m) masks) (length masks)) (refused (Mask (firstAt (badMask m) masks)))
+    (cond (ltb (firstAt (badBudget F) budgets) (length budgets)) (refused (Budget (firstAt (badBudget F) budgets)))
+    (cond (shortTable (length budgets) m (wholePieces table)) (refused ShortTable) passed)))))

@@ -1,0 +1,1 @@
+// The planner: from a set of tasks to its frame table, or to a numbered refusal.

@@ -60,3 +60,14 @@ fn one_seed_gives_one_file() {
         assert_ne!(once, judge(&["generate", kind, "50", "4"]).stdout);
     }
 }
+
+#[test]
+fn the_stored_lines_are_right() {
+    let folder = PathBuf::from(env!("CARGO_MANIFEST_DIR")).join("../examples/lines");
+    for kind in ["plan", "check", "moves", "walk"] {
+        let input = folder.join(format!("{kind}.in"));
+        let output = folder.join(format!("{kind}.out"));
+        let output = judge(&[kind, input.to_str().unwrap(), output.to_str().unwrap()]);
+        assert_eq!(output.status.code(), Some(0), "{kind}: {output:?}");
+    }
+}

@@ -1,3 +1,5 @@
 pub mod Verdict
 pub mod Forest
 pub mod Strip
+pub mod Links
+pub mod Loose

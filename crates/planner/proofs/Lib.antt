@@ -3,3 +3,4 @@ pub mod Forest
 pub mod Strip
 pub mod Links
 pub mod Loose
+pub mod Shift

@@ -1,3 +1,4 @@
 pub mod Certificate
 pub mod Flow
 pub mod Stripping
+pub mod Ring

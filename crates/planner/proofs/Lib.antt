@@ -3,4 +3,6 @@ pub mod Forest
 pub mod Strip
 pub mod Links
 pub mod Loose
-pub mod Shift
+pub mod Shifting
+pub mod Cells
+pub mod ShiftLaws

@@ -58,3 +58,19 @@ pub record Kept (n m : ℕ) (x y : ℕ → ℕ → ℕ) : Type 0 where
 -- the number of edges
 unfoldable pub edges : ℕ → ℕ → (ℕ → ℕ → ℕ) → ℕ
 edges n m x = sumTo n (λ i. sumTo m (λ j. positive (x i j)))
+
+-- the places lo to hi - 1 of the two lists name tasks below 64 and cores below 16
+pub record Named (task core : ℕ → ℕ) (lo hi : ℕ) : Type 0 where
+  pub some : lo < hi
+  pub places : hi ≤ 18
+  pub tasks : (i : ℕ) → lo ≤ i → i < hi → task i < 64
+  pub cores : (i : ℕ) → lo ≤ i → i < hi → core i < 16
+
+-- what is known before the shifts
+pub record ShiftReady (n m : ℕ) (x : ℕ → ℕ → ℕ) (task core : ℕ → ℕ) (lo hi d : ℕ) : Type 0 where
+  pub tasks : n ≤ 64
+  pub cores : m ≤ 16
+  pub places : hi ≤ 18
+  pub ring : Ring n m x task core lo hi
+  pub least : Least x task core lo hi d
+  pub small : (a : ℕ) → a < n → sumTo m (x a) ≤ 1000000

@@ -6,3 +6,5 @@ pub mod Loose
 pub mod Shifting
 pub mod Cells
 pub mod ShiftLaws
+pub mod Pigeon
+pub mod Ways

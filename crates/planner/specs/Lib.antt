@@ -2,3 +2,4 @@ pub mod Certificate
 pub mod Flow
 pub mod Stripping
 pub mod Ring
+pub mod Path

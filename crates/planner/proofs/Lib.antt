@@ -8,3 +8,4 @@ pub mod Cells
 pub mod ShiftLaws
 pub mod Pigeon
 pub mod Ways
+pub mod WayLaws

@@ -15,9 +15,9 @@ pub sum-one : (k : ℕ) (g : ℕ → ℕ) → ((i : ℕ) → i < k → g i ≤ 1
 unfolding sumTo
 sum-one zero g small alone = omega arith
 sum-one (suc k) g small alone =
-    elim (decLt 0 (g k))
-    [ yes p ↦ omega (arith, sum-zero k {f = g} (λ i l. none (λ q. alone i k l (omega arith) q p)), small k (omega arith))
-    | no z ↦ omega (arith, sum-one k g (λ i l. small i (omega arith)) (λ i l a b. alone i l a (omega arith)))
+    elim (decLt 0 (g k)) [
+      | yes p ↦ omega (arith, sum-zero k {f = g} (λ i l. none (λ q. alone i k l (omega arith) q p)), small k (omega arith))
+      | no z ↦ omega (arith, sum-one k g (λ i l. small i (omega arith)) (λ i l a b. alone i l a (omega arith)))
     ]
   where
     none : {u : ℕ} → (0 < u → ⊥) → u ≡ 0
@@ -46,6 +46,7 @@ pigeon k m f below differ =
   where
     rows : sumTo k (λ i. sumTo m (mark (f i))) ≡ k * 1
     rows = sum-cong k (λ i l. mark-sum m (f i) (below i l)) ∙ sum-const k 1
+
     one : (j : ℕ) → j < m → sumTo k (λ i. mark (f i) j) ≤ 1
     one j l =
         sum-one k (λ i. mark (f i) j) (λ i a. mark-small (f i) j)

@@ -14,21 +14,23 @@ use Rattle.planner.proofs.Pigeon.{pigeon}
 module _ (n m : ℕ) (x : ℕ → ℕ → ℕ) (g h : ℕ) where
   pub way-begins : (task core : ℕ → ℕ) (t : ℕ) → t < n → has g t ≡ 0 → task 0 ≡ t → Way n m x g h task core 0
   way-begins task core t l z e =
-      record
-      { tasks-below = λ i a. subst (λ (k : ℕ). k < n) (sym (ap task (none a) ∙ e)) l
-      ; tasks-there = λ i a. ap (has g) (ap task (none a) ∙ e) ∙ z
-      ; cores-below = λ i a. absurd (never a)
-      ; cores-there = λ i a. absurd (never a)
-      ; tasks-differ = λ i l a b. absurd (past a b)
-      ; cores-differ = λ i l a b. absurd (never b)
-      ; along = λ i a. absurd (never a)
-      ; across = λ i a. absurd (never a)
+      record {
+        tasks-below = λ i a. subst (λ (k : ℕ). k < n) (sym (ap task (none a) ∙ e)) l;
+        tasks-there = λ i a. ap (has g) (ap task (none a) ∙ e) ∙ z;
+        cores-below = λ i a. absurd (never a);
+        cores-there = λ i a. absurd (never a);
+        tasks-differ = λ i l a b. absurd (past a b);
+        cores-differ = λ i l a b. absurd (never b);
+        along = λ i a. absurd (never a);
+        across = λ i a. absurd (never a);
       }
     where
       none : {i : ℕ} → i ≤ 0 → i ≡ 0
       none a = omega arith
+
       never : {i : ℕ} → i < 0 → ⊥
       never a = omega arith
+
       past : {i l : ℕ} → i < l → l ≤ 0 → ⊥
       past a b = omega arith
 
@@ -40,9 +42,9 @@ module _ (n m : ℕ) (x : ℕ → ℕ → ℕ) (g h : ℕ) where
       (came : (i : ℕ) → suc i ≡ k → from ≡ core i) (same : (i : ℕ) → i < k → new i ≡ core i) (last : new k ≡ c) where
     along-new : (i : ℕ) → i < suc k → 0 < x (task i) (new i)
     along-new i l =
-        elim (ℕ-discrete i k)
-        [ yes e ↦ subst (λ (j : ℕ). 0 < x (task j) (new j)) (sym e) (subst (λ (v : ℕ). 0 < x (task k) v) (sym last) (o .units))
-        | no ne ↦ subst (λ (v : ℕ). 0 < x (task i) v) (sym (same i (omega arith))) (w .along i (omega arith))
+        elim (ℕ-discrete i k) [
+          | yes e ↦ subst (λ (j : ℕ). 0 < x (task j) (new j)) (sym e) (subst (λ (v : ℕ). 0 < x (task k) v) (sym last) (o .units))
+          | no ne ↦ subst (λ (v : ℕ). 0 < x (task i) v) (sym (same i (omega arith))) (w .along i (omega arith))
         ]
 
     across-new : (i : ℕ) → i < k → 0 < x (task (suc i)) (new i)
@@ -50,17 +52,17 @@ module _ (n m : ℕ) (x : ℕ → ℕ → ℕ) (g h : ℕ) where
 
     below-new : (i : ℕ) → i < suc k → new i < m
     below-new i l =
-        elim (ℕ-discrete i k)
-        [ yes e ↦ subst (λ (v : ℕ). v < m) (sym (ap new e ∙ last)) (o .below)
-        | no ne ↦ subst (λ (v : ℕ). v < m) (sym (same i (omega arith))) (w .cores-below i (omega arith))
+        elim (ℕ-discrete i k) [
+          | yes e ↦ subst (λ (v : ℕ). v < m) (sym (ap new e ∙ last)) (o .below)
+          | no ne ↦ subst (λ (v : ℕ). v < m) (sym (same i (omega arith))) (w .cores-below i (omega arith))
         ]
 
     -- neighbours in the list differ
     turn-new : (i : ℕ) → suc i < suc k → new (suc i) ≡ new i → ⊥
     turn-new i l e =
-        elim (ℕ-discrete (suc i) k)
-        [ yes f ↦ o .new (sym (ap new f ∙ last) ∙ e ∙ same i (omega arith) ∙ sym (came i f))
-        | no ne ↦ w .cores-differ i (suc i) (omega arith) (omega arith) (sym (same i (omega arith)) ∙ sym e ∙ same (suc i) (omega arith))
+        elim (ℕ-discrete (suc i) k) [
+          | yes f ↦ o .new (sym (ap new f ∙ last) ∙ e ∙ same i (omega arith) ∙ sym (came i f))
+          | no ne ↦ w .cores-differ i (suc i) (omega arith) (omega arith) (sym (same i (omega arith)) ∙ sym e ∙ same (suc i) (omega arith))
         ]
 
     -- the place after i has the core of place i before it
@@ -69,6 +71,7 @@ module _ (n m : ℕ) (x : ℕ → ℕ → ℕ) (g h : ℕ) where
       where
         past : {a b : ℕ} → a ≤ b → suc b ≡ a → ⊥
         past p q = omega arith
+
         one : (i : ℕ) → suc i - 1 ≡ i
         one i = omega arith
 
@@ -81,14 +84,14 @@ module _ (n m : ℕ) (x : ℕ → ℕ → ℕ) (g h : ℕ) where
     -- a ring of the places from lo to k, where the first task has units on c and the first core is another
     ring-from : (lo : ℕ) → lo < k → 0 < x (task lo) c → (new lo ≡ c → ⊥) → Ring n m x task new lo (suc k)
     ring-from lo l first differ =
-        record
-        { two = omega arith
-        ; tasks-below = λ i a b. w .tasks-below i (omega arith)
-        ; cores-below = λ i a b. below-new i b
-        ; along = λ i a b. along-new i b
-        ; back = back-at
-        ; turns = turns-at
-        ; tasks-differ = λ i l a b d. w .tasks-differ i l b (omega arith)
+        record {
+          two = omega arith;
+          tasks-below = λ i a b. w .tasks-below i (omega arith);
+          cores-below = λ i a b. below-new i b;
+          along = λ i a b. along-new i b;
+          back = back-at;
+          turns = turns-at;
+          tasks-differ = λ i l a b d. w .tasks-differ i l b (omega arith);
         }
       where
         back-at : (i : ℕ) → lo ≤ i → i < suc k → 0 < x (task i) (prior new lo (suc k) i)
@@ -97,19 +100,20 @@ module _ (n m : ℕ) (x : ℕ → ℕ → ℕ) (g h : ℕ) where
             bottom : lo ≤ 0 → 0 ≡ lo
             bottom a = omega arith
         back-at (suc i) a b =
-            elim (ℕ-discrete (suc i) lo)
-            [ yes e ↦ subst (λ (v : ℕ). 0 < x (task (suc i)) v) (sym (prior-first lo (suc i) e)) (subst (λ (i : ℕ). 0 < x (task i) c) (sym e) first)
-            | no ne ↦ subst (λ (v : ℕ). 0 < x (task (suc i)) v) (sym (prior-after lo (suc k) i (omega arith))) (across-new i (omega arith))
+            elim (ℕ-discrete (suc i) lo) [
+              | yes e ↦ subst (λ (v : ℕ). 0 < x (task (suc i)) v) (sym (prior-first lo (suc i) e)) (subst (λ (i : ℕ). 0 < x (task i) c) (sym e) first)
+              | no ne ↦ subst (λ (v : ℕ). 0 < x (task (suc i)) v) (sym (prior-after lo (suc k) i (omega arith))) (across-new i (omega arith))
             ]
+
         turns-at : (i : ℕ) → lo ≤ i → i < suc k → new i ≡ prior new lo (suc k) i → ⊥
         turns-at zero a b e = differ (ap new (sym (bottom a)) ∙ e ∙ prior-first lo 0 (bottom a))
           where
             bottom : lo ≤ 0 → 0 ≡ lo
             bottom a = omega arith
         turns-at (suc i) a b e =
-            elim (ℕ-discrete (suc i) lo)
-            [ yes f ↦ differ (ap new (sym f) ∙ e ∙ prior-first lo (suc i) f)
-            | no ne ↦ turn-new i (omega arith) (e ∙ prior-after lo (suc k) i (omega arith))
+            elim (ℕ-discrete (suc i) lo) [
+              | yes f ↦ differ (ap new (sym f) ∙ e ∙ prior-first lo (suc i) f)
+              | no ne ↦ turn-new i (omega arith) (e ∙ prior-after lo (suc k) i (omega arith))
             ]
 
     -- the core stood at place a before
@@ -122,8 +126,10 @@ module _ (n m : ℕ) (x : ℕ → ℕ → ℕ) (g h : ℕ) where
       where
         add-one : (n : ℕ) → n + 1 ≡ suc n
         add-one n = omega arith
+
         further : (suc a ≡ k → ⊥) → suc a < k
         further ne = omega arith
+
         differs : new (suc a) ≡ c → ⊥
         differs e =
             w .cores-differ a (suc a) (omega arith) (further (λ f. o .new (sym (p .found l) ∙ sym (came a f))))
@@ -140,8 +146,10 @@ module _ (n m : ℕ) (x : ℕ → ℕ → ℕ) (g h : ℕ) where
       where
         add-one : (n : ℕ) → n + 1 ≡ suc n
         add-one n = omega arith
+
         before : (b ≡ k → ⊥) → b < k
         before ne = omega arith
+
         within : b < k → k ≤ a → b < a
         within p q = omega arith
 
@@ -150,30 +158,31 @@ module _ (n m : ℕ) (x : ℕ → ℕ → ℕ) (g h : ℕ) where
         → ((i : ℕ) → i < k + 1 → next i ≡ task i) → next (k + 1) ≡ u → Way n m x g h next new (k + 1)
     way-more next u a b p l q r s like top =
         rw (add-one k)
-        (record
-        { tasks-below = λ i d. elim (ℕ-discrete i (suc k)) [ yes e ↦ subst (λ (v : ℕ). v < n) (sym (at-top i e)) (q .below) | no ne ↦ subst (λ (v : ℕ). v < n) (sym (like i (omega arith))) (w .tasks-below i (omega arith)) ]
-        ; tasks-there = λ i d. elim (ℕ-discrete i (suc k)) [ yes e ↦ ap (has g) (at-top i e) ∙ q .still | no ne ↦ ap (has g) (like i (omega arith)) ∙ w .tasks-there i (omega arith) ]
-        ; cores-below = λ i d. below-new i d
-        ; cores-there = λ i d. elim (ℕ-discrete i k) [ yes e ↦ ap (has h) (ap new e ∙ last) ∙ o .still | no ne ↦ ap (has h) (same i (omega arith)) ∙ w .cores-there i (omega arith) ]
-        ; tasks-differ = λ i j d f e.
-            elim (ℕ-discrete j (suc k))
-            [ yes t ↦ r .before i (omega arith) (sym (like i (omega arith)) ∙ e ∙ at-top j t)
-            | no ne ↦ w .tasks-differ i j d (omega arith) (sym (like i (omega arith)) ∙ e ∙ like j (omega arith))
-            ]
-        ; cores-differ = λ i j d f e.
-            elim (ℕ-discrete j k)
-            [ yes t ↦ p .before i (omega arith) (sym (same i (omega arith)) ∙ e ∙ ap new t ∙ last)
-            | no ne ↦ w .cores-differ i j d (omega arith) (sym (same i (omega arith)) ∙ e ∙ same j (omega arith))
-            ]
-        ; along = λ i d. subst (λ (v : ℕ). 0 < x v (new i)) (sym (like i (omega arith))) (along-new i d)
-        ; across = λ i d.
-            elim (ℕ-discrete i k)
-            [ yes e ↦ subst (λ (v : ℕ). 0 < x v (new i)) (sym (at-top (suc i) (ap suc e))) (subst (λ (v : ℕ). 0 < x u v) (sym (ap new e ∙ last)) (q .units))
-            | no ne ↦ subst (λ (v : ℕ). 0 < x v (new i)) (sym (like (suc i) (omega arith))) (across-new i (omega arith))
-            ]
+        (record {
+          tasks-below = λ i d. elim (ℕ-discrete i (suc k)) [ yes e ↦ subst (λ (v : ℕ). v < n) (sym (at-top i e)) (q .below) | no ne ↦ subst (λ (v : ℕ). v < n) (sym (like i (omega arith))) (w .tasks-below i (omega arith)) ];
+          tasks-there = λ i d. elim (ℕ-discrete i (suc k)) [ yes e ↦ ap (has g) (at-top i e) ∙ q .still | no ne ↦ ap (has g) (like i (omega arith)) ∙ w .tasks-there i (omega arith) ];
+          cores-below = λ i d. below-new i d;
+          cores-there = λ i d. elim (ℕ-discrete i k) [ yes e ↦ ap (has h) (ap new e ∙ last) ∙ o .still | no ne ↦ ap (has h) (same i (omega arith)) ∙ w .cores-there i (omega arith) ];
+          tasks-differ = λ i j d f e.
+              elim (ℕ-discrete j (suc k)) [
+                | yes t ↦ r .before i (omega arith) (sym (like i (omega arith)) ∙ e ∙ at-top j t)
+                | no ne ↦ w .tasks-differ i j d (omega arith) (sym (like i (omega arith)) ∙ e ∙ like j (omega arith))
+              ];
+          cores-differ = λ i j d f e.
+              elim (ℕ-discrete j k) [
+                | yes t ↦ p .before i (omega arith) (sym (same i (omega arith)) ∙ e ∙ ap new t ∙ last)
+                | no ne ↦ w .cores-differ i j d (omega arith) (sym (same i (omega arith)) ∙ e ∙ same j (omega arith))
+              ];
+          along = λ i d. subst (λ (v : ℕ). 0 < x v (new i)) (sym (like i (omega arith))) (along-new i d);
+          across = λ i d.
+              elim (ℕ-discrete i k) [
+                | yes e ↦ subst (λ (v : ℕ). 0 < x v (new i)) (sym (at-top (suc i) (ap suc e))) (subst (λ (v : ℕ). 0 < x u v) (sym (ap new e ∙ last)) (q .units))
+                | no ne ↦ subst (λ (v : ℕ). 0 < x v (new i)) (sym (like (suc i) (omega arith))) (across-new i (omega arith))
+              ];
         })
       where
         add-one : (n : ℕ) → n + 1 ≡ suc n
         add-one n = omega arith
+
         at-top : (i : ℕ) → i ≡ suc k → next i ≡ u
         at-top i e = ap next (e ∙ sym (add-one k)) ∙ top

@@ -2,7 +2,9 @@
 -- new. It goes on until a vertex comes again, and that closes a cycle.
 -- Assumes nothing.
 use mathlib.Core.Path.{_≡_}
-use Prim.Native.Nat.{ℕ, suc, _+_, _≤_, _<_}
+use mathlib.Core.Bool.{Bool, true, false}
+use Prim.Native.Nat.{ℕ, suc, _+_, _-_, _*_, _≤_, _<_}
+use Rattle.rules.specs.Sum.{positive}
 use Rattle.rules.specs.Sets.{has}
 
 pub record Way (n m : ℕ) (x : ℕ → ℕ → ℕ) (tasksGone coresGone : ℕ) (task core : ℕ → ℕ) (k : ℕ) : Type 0 where
@@ -27,3 +29,14 @@ pub record Place (list : ℕ → ℕ) (c v r : ℕ) : Type 0 where
   pub within : r ≤ c
   pub before : (i : ℕ) → i < r → list i ≡ v → ⊥
   pub found : r < c → list r ≡ v
+
+-- r says whether there are units towards a vertex that is still there and is not the one we came from
+pub record Suits (units gone at from : ℕ) (r : Bool) : Type 0 where
+  pub units-there : r ≡ true → 0 < units
+  pub not-gone : r ≡ true → gone ≡ 0
+  pub not-back : r ≡ true → at ≡ from → ⊥
+  pub nothing : r ≡ false → (at ≡ from → ⊥) → (1 - gone) * positive units ≡ 0
+
+-- r is the core before place k
+abbrev pub Came : (ℕ → ℕ) → ℕ → ℕ → Type 0
+Came core k r = (i : ℕ) → suc i ≡ k → r ≡ core i

@@ -9,3 +9,4 @@ pub mod ShiftLaws
 pub mod Pigeon
 pub mod Ways
 pub mod WayLaws
+pub mod CycleLaws

@@ -6,6 +6,7 @@ use mathlib.Core.Bool.{Bool, true, false}
 use Prim.Native.Nat.{ℕ, suc, _+_, _-_, _*_, _≤_, _<_}
 use Rattle.rules.specs.Sum.{positive}
 use Rattle.rules.specs.Sets.{has}
+use Rattle.planner.specs.Stripping.{Fast}
 
 pub record Way (n m : ℕ) (x : ℕ → ℕ → ℕ) (tasksGone coresGone : ℕ) (task core : ℕ → ℕ) (k : ℕ) : Type 0 where
   pub tasks-below : (i : ℕ) → i ≤ k → task i < n
@@ -40,3 +41,11 @@ pub record Suits (units gone at from : ℕ) (r : Bool) : Type 0 where
 -- r is the core before place k
 abbrev pub Came : (ℕ → ℕ) → ℕ → ℕ → Type 0
 Came core k r = (i : ℕ) → suc i ≡ k → r ≡ core i
+
+-- what is known before a cycle is sought
+pub record SeekReady (n m : ℕ) (x : ℕ → ℕ → ℕ) (tasksGone coresGone start : ℕ) : Type 0 where
+  pub tasks : n ≤ 64
+  pub cores : m ≤ 16
+  pub below : start < n
+  pub still : has tasksGone start ≡ 0
+  pub fast : Fast n m x tasksGone coresGone

@@ -1,5 +1,6 @@
 // A cycle in a graph of units in which every vertex that is still there has two links: a way from task to core to task that never turns
 // back comes to a vertex again, since there are at most sixteen cores.
+use super::peel::Gone;
 use super::sets::core_in;
 use super::sets::task_in;
 ghost use mathlib.Core.Path.{_≡_};
@@ -12,7 +13,7 @@ ghost use Rattle.rules.specs.Plan.{at};
 ghost use Rattle.planner.specs.Certificate.{cell};
 ghost use Rattle.planner.specs.Stripping.{links, Fast};
 ghost use Rattle.planner.specs.Ring.{Ring};
-ghost use Rattle.planner.specs.Path.{Other, Place, Suits, Came};
+ghost use Rattle.planner.specs.Path.{Other, Place, Suits, Came, SeekReady};
 
 // Whether a vertex has units, is still there, and is not the one we came from.
 fn suits(units: u32, gone: u64, at: usize, from: usize) -> bool
@@ -82,4 +83,48 @@ fn came_from(cores: &[usize; 18], k: usize) -> usize
         return 16;
     }
     cores[k - 1]
+}
+
+// The places of two lists between which a cycle stands: from lo to hi - 1.
+pub(crate) struct Span {
+    pub(crate) lo: usize,
+    pub(crate) hi: usize,
+}
+
+// The way from a task that is still there, until it meets itself.
+pub(crate) fn find_cycle(
+    units: &[u32; 1024],
+    n: usize,
+    m: usize,
+    gone: Gone,
+    start: usize,
+    tasks: &mut [usize; 18],
+    cores: &mut [usize; 18],
+) -> Span
+    requires { ⌜ (length (now tasks) ≡ 18) × (length (now cores) ≡ 18) × SeekReady n m (cell (now units)) (gone .tasks) (gone .cores) start ⌝ }
+    ensures { λ r. ⌜ Ring n m (cell (now (units .entry))) (at (now (tasks .exit))) (at (now (cores .exit))) (r .lo) (r .hi) × (r .hi ≤ 18) ⌝ }
+{
+    let tasks_gone = gone.tasks;
+    let cores_gone = gone.cores;
+    tasks[0] = start;
+    let mut k: usize = 0;
+    loop {
+        let from = came_from(cores, k);
+        let c = other_core(units, m, cores_gone, tasks[k], from);
+        let a = place_of(cores, k, c);
+        cores[k] = c;
+        if a < k {
+            return Span {
+                lo: a + 1,
+                hi: k + 1,
+            };
+        }
+        let u = other_task(units, n, tasks_gone, c, tasks[k]);
+        let b = place_of(tasks, k + 1, u);
+        if b < k + 1 {
+            return Span { lo: b, hi: k + 1 };
+        }
+        tasks[k + 1] = u;
+        k += 1;
+    }
 }

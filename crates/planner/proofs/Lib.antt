@@ -10,3 +10,4 @@ pub mod Pigeon
 pub mod Ways
 pub mod WayLaws
 pub mod CycleLaws
+pub mod UnloopLaws

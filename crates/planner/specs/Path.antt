@@ -49,3 +49,9 @@ pub record SeekReady (n m : ℕ) (x : ℕ → ℕ → ℕ) (tasksGone coresGone 
   pub below : start < n
   pub still : has tasksGone start ≡ 0
   pub fast : Fast n m x tasksGone coresGone
+
+-- r is the lowest vertex below n that is still there, or n where all are gone
+pub record FirstThere (n gone r : ℕ) : Type 0 where
+  pub within : r ≤ n
+  pub still : r < n → has gone r ≡ 0
+  pub before : (i : ℕ) → i < r → has gone i ≡ 1

@@ -3,3 +3,4 @@ mod cycle;
 mod peel;
 mod sets;
 mod shift;
+mod unloop;

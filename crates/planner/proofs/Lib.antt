@@ -4,8 +4,8 @@ pub mod Strip
 pub mod Links
 pub mod Loose
 pub mod Shifting
-pub mod Cells
-pub mod ShiftLaws
+pub mod Stores
+pub mod RingLaws
 pub mod Pigeon
 pub mod Ways
 pub mod WayLaws

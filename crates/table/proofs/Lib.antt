@@ -1,0 +1,4 @@
+pub mod Answers
+pub mod All
+pub mod Check
+pub mod Next

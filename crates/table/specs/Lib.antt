@@ -1,0 +1,4 @@
+pub mod All
+pub mod Read
+pub mod Next
+pub mod Framed

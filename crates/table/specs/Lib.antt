@@ -2,3 +2,4 @@ pub mod All
 pub mod Read
 pub mod Next
 pub mod Framed
+pub mod Sizes

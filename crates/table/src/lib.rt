@@ -15,6 +15,7 @@ ghost use Rattle.rules.specs.Check.{checkAnswer, movesAnswer};
 ghost use Rattle.table.specs.Read.{pieceOf, together, follows, passes};
 ghost use Rattle.table.specs.Next.{sooner, nextPiece};
 ghost use Rattle.table.specs.Framed.{Framed};
+ghost use Rattle.table.specs.Sizes.{sizesPass};
 
 // One piece of a table: on this core this task runs from start on for len units.
 pub(crate) struct Stretch {
@@ -202,4 +203,86 @@ pub fn next_piece(table: &[u32], task: u32, from: u32) -> usize
         k += 1;
     }
     best
+}
+
+// "a move is a piece whose core differs from the piece before it": 1 for a move, else 0.
+pub(crate) fn changed(core: u32, next: u32) -> usize
+    ensures { λ r. ⌜ r ≡ cond (eqb core next) 0 1 ⌝ }
+{
+    if core == next { 0 } else { 1 }
+}
+
+// "for each task, list its pieces by start within the frame": its moves. The first piece is compared with itself.
+pub(crate) fn task_moves(table: &[u32], task: u32) -> usize
+    requires { ⌜ Framed (now table) ⌝ }
+    ensures { λ r. ⌜ (r ≡ changes (byStart task (piecesOf (now (table .entry))))) × (r ≤ 95) ⌝ }
+{
+    let n = table.len() / 4;
+    let mut from: u32 = 0;
+    let mut k = next_piece(table, task, from);
+    if n <= k {
+        return 0;
+    }
+    let mut core = piece_at(table, k).core;
+    let mut count: usize = 0;
+    while k < n {
+        let p = piece_at(table, k);
+        count += changed(core, p.core);
+        core = p.core;
+        from = p.start + p.len;
+        k = next_piece(table, task, from);
+    }
+    count
+}
+
+// "The move count is the sum over tasks."
+pub(crate) fn table_moves(table: &[u32]) -> usize
+    requires { ⌜ Framed (now table) ⌝ }
+    ensures { λ r. ⌜ r ≡ moves (piecesOf (now (table .entry))) ⌝ }
+{
+    let mut total: usize = 0;
+    let mut task: u32 = 0;
+    while task < 64 {
+        total += task_moves(table, task);
+        task += 1;
+    }
+    total
+}
+
+// The tests 1 and 2.
+pub(crate) fn sizes_pass(frame: u32, cores: u32) -> bool
+    ensures { λ r. ⌜ r ≡ sizesPass frame cores ⌝ }
+{
+    if frame == 0 {
+        return false;
+    }
+    if 1_000_000 < frame {
+        return false;
+    }
+    if cores == 0 {
+        return false;
+    }
+    cores <= 16
+}
+
+// The moves of a frame table, and 0 beside a refusal.
+pub fn count_moves(frame: u32, cores: u32, table: &[u32]) -> Counted
+    ensures { λ r. ⌜ r ≡ movesAnswer frame cores (now (table .entry)) ⌝ }
+{
+    if !sizes_pass(frame, cores) {
+        return Counted {
+            answer: check_table(frame, cores, table),
+            moves: 0,
+        };
+    }
+    if !is_table(frame, cores, table) {
+        return Counted {
+            answer: Answer::NotTable,
+            moves: 0,
+        };
+    }
+    Counted {
+        answer: Answer::Accepted,
+        moves: table_moves(table),
+    }
 }

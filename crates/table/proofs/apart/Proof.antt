@@ -1,3 +1,5 @@
+-- `table::apart` meets its contract: each need is answered by a law of the crate's proofs.
+-- Assumes nothing.
 use Rattle.table.proofs.Answers.{apart-core, apart-task, apart-both}
 use borrow.Author.Needs.{needs}
 use Rattle.table.proofs.apart.Statement.{statement}

@@ -1,3 +1,5 @@
+-- `table::check_table` meets its contract: each need is answered by a law of the crate's proofs.
+-- Assumes nothing.
 use Rattle.table.proofs.Check.{answer-frame-zero, answer-frame-long, answer-cores-zero, answer-cores-many, answer-accepted, answer-not-table}
 use borrow.Author.Needs.{needs}
 use Rattle.table.proofs.check_table.Statement.{statement}

@@ -1,3 +1,5 @@
+-- `table::follows_all` meets its contract: each need is answered by a law of the crate's proofs.
+-- Assumes nothing.
 use Prim.Native.Nat.{_≤_, _-_}
 use Rattle.table.proofs.Check.{followed, follows-none, follows-more, follows-fail, follows-done}
 use borrow.Author.Needs.{needs}

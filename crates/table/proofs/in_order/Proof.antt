@@ -1,3 +1,5 @@
+-- `table::in_order` meets its contract: each need is answered by a law of the crate's proofs.
+-- Assumes nothing.
 use Rattle.table.proofs.Answers.{ordered-core, ordered-start, ordered-not}
 use borrow.Author.Needs.{needs}
 use Rattle.table.proofs.in_order.Statement.{statement}

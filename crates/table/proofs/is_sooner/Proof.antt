@@ -1,3 +1,5 @@
+-- `table::is_sooner` meets its contract: each need is answered by a law of the crate's proofs.
+-- Assumes nothing.
 use Rattle.table.proofs.Next.{sooner-task, sooner-early, sooner-first, sooner-start}
 use borrow.Author.Needs.{needs}
 use Rattle.table.proofs.is_sooner.Statement.{statement}

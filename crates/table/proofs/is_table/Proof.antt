@@ -1,3 +1,5 @@
+-- `table::is_table` meets its contract: each need is answered by a law of the crate's proofs.
+-- Assumes nothing.
 use mathlib.Core.Path.{_≡_}
 use mathlib.Core.Bool.{true}
 use Prim.Native.Nat.{_≤_, _-_}

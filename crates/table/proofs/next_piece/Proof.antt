@@ -1,3 +1,5 @@
+-- `table::next_piece` meets its contract: each need is answered by a law of the crate's proofs.
+-- Assumes nothing.
 use mathlib.Core.Path.{_≡_}
 use mathlib.Core.Logic.{⊎-elim}
 use Prim.Native.Nat.{_≤_, _-_}

@@ -1,3 +1,5 @@
+-- `table::overlaps` meets its contract: each need is answered by a law of the crate's proofs.
+-- Assumes nothing.
 use Rattle.table.proofs.Answers.{overlap-not, overlap-end}
 use borrow.Author.Needs.{needs}
 use Rattle.table.proofs.overlaps.Statement.{statement}

@@ -1,3 +1,5 @@
+-- `table::piece_passes` meets its contract: each need is answered by a law of the crate's proofs.
+-- Assumes nothing.
 use Rattle.table.proofs.Check.{passes-follows, passes-not}
 use borrow.Author.Needs.{needs}
 use Rattle.table.proofs.piece_passes.Statement.{statement}

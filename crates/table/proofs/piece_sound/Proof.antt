@@ -1,3 +1,5 @@
+-- `table::piece_sound` meets its contract: each need is answered by a law of the crate's proofs.
+-- Assumes nothing.
 use Rattle.table.proofs.Answers.{sound-core, sound-task, sound-length, sound-end}
 use borrow.Author.Needs.{needs}
 use Rattle.table.proofs.piece_sound.Statement.{statement}

@@ -1,3 +1,5 @@
+-- `table::stand_together` meets its contract: each need is answered by a law of the crate's proofs.
+-- Assumes nothing.
 use Rattle.table.proofs.Answers.{together-apart, together-not}
 use borrow.Author.Needs.{needs}
 use Rattle.table.proofs.stand_together.Statement.{statement}

@@ -1,4 +1,6 @@
 pub mod Verdict
+pub mod FirstLaws
+pub mod TestLaws
 pub mod Forest
 pub mod Strip
 pub mod Links

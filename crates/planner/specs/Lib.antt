@@ -3,3 +3,4 @@ pub mod Flow
 pub mod Stripping
 pub mod Ring
 pub mod Path
+pub mod Verdict

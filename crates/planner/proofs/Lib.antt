@@ -13,3 +13,4 @@ pub mod Ways
 pub mod WayLaws
 pub mod CycleLaws
 pub mod UnloopLaws
+pub mod Apart

@@ -1,1 +1,2 @@
 pub mod Verdict
+pub mod GroupSum

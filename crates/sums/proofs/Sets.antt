@@ -2,11 +2,11 @@
 -- Assumes nothing.
 use mathlib.Core.Path.{_≡_, refl, sym, _∙_, ap, ap₂}
 use Prim.Native.Nat.{ℕ, zero, suc, min, max, _+_, _*_, _/_, _%_, _^_, _≤_, _<_}
-use native.Mathlib.Nat.{le-refl, le-trans, lt-of-lt-of-le, not-suc-le-zero, div-eq-of-lt, pow-suc, mod-lt, zero-add, mod-eq-of-lt}
+use native.Mathlib.Nat.{div-eq-of-lt, div-one, div-self, lt-of-lt-of-le, max-zero, mod-eq-of-lt, not-suc-le-zero, one-mul, pow-suc, pow-zero, zero-add, zero-div, zero-mul}
 use native.Mathlib.Decide.{ℕ-discrete, decLt}
 use native.Mathlib.Omega.{arith}
-use lib.Bits.{bitOr, bitAnd, or-step, and-step, or-shr, and-shr, or-lt, and-lt}
-use lib.Pow.{pow-mono, pow-pos, shr-shr, shl-shr}
+use lib.Bits.{bitOr, bitAnd, and-mask, mask-lt, or-step, and-step, or-shr, and-shr, or-lt, and-lt}
+use lib.Pow.{pow-mono, pow-lt, pow-pos, shr-shr, shl-shr}
 use lib.Count.{ones, ones-step}
 use Rattle.rules.specs.Sum.{sumTo, put}
 use Rattle.rules.specs.Sets.{has, union}
@@ -28,7 +28,7 @@ has-le-one s i = omega (arith, has-lt s i)
 
 pub has-first : (s : ℕ) → has s 0 ≡ s % 2
 unfolding has
-has-first s = ap (λ (n : ℕ). n % 2) (native.Mathlib.Nat.div-one s)
+has-first s = ap (λ (n : ℕ). n % 2) (div-one s)
 
 pub has-next : (s i : ℕ) → has s (suc i) ≡ has (s / 2) i
 unfolding has
@@ -47,7 +47,7 @@ has-and a b i = ap (λ (n : ℕ). n % 2) (and-shr a b i) ∙ omega (arith, and-s
 
 pub has-none : (i : ℕ) → has 0 i ≡ 0
 unfolding has
-has-none i = ap (λ (n : ℕ). n % 2) (native.Mathlib.Nat.zero-div (2 ^ i))
+has-none i = ap (λ (n : ℕ). n % 2) (zero-div (2 ^ i))
 
 -- nothing at or above n
 pub has-above : (n : ℕ) {s i : ℕ} → s < 2 ^ n → n ≤ i → has s i ≡ 0
@@ -66,7 +66,7 @@ has-below n {s} {i} h e = elim (decLt i n) [ yes l ↦ l | no g ↦ absurd (clas
 
 pub has-self : (k : ℕ) → has (2 ^ k) k ≡ 1
 unfolding has
-has-self k = ap (λ (n : ℕ). n % 2) (native.Mathlib.Nat.div-self (pow-pos k))
+has-self k = ap (λ (n : ℕ). n % 2) (div-self (pow-pos k))
 
 half-power : (k : ℕ) → 2 ^ suc k / 2 ≡ 2 ^ k
 half-power k = omega (arith, pow-suc 2 k)
@@ -85,7 +85,7 @@ has-with s k i =
       | yes e ↦ has-or s (2 ^ k) i ∙ here i e ∙ sym (at i e)
       | no ne ↦
           has-or s (2 ^ k) i ∙ ap (λ (n : ℕ). max (has s i) n) (has-power-other k i ne)
-          ∙ native.Mathlib.Nat.max-zero (has s i) ∙ sym (put-other k 1 (has s) i ne)
+          ∙ max-zero (has s i) ∙ sym (put-other k 1 (has s) i ne)
     ]
   where
     here : (i : ℕ) → i ≡ k → max (has s i) (has (2 ^ k) i) ≡ 1
@@ -108,14 +108,14 @@ pub with-from : (s k i : ℕ) → (i ≡ k → ⊥) → has (bitOr s (2 ^ k)) i 
 with-from s k i ne h = sym (with-other s k i ne) ∙ h
 
 pub with-lt : (n s k : ℕ) → s < 2 ^ n → k < n → bitOr s (2 ^ k) < 2 ^ n
-with-lt n s k h l = or-lt n s (2 ^ k) h (lib.Pow.pow-lt l)
+with-lt n s k h l = or-lt n s (2 ^ k) h (pow-lt l)
 
 half-lt : (n s : ℕ) → s < 2 ^ suc n → s / 2 < 2 ^ n
 half-lt n s h = omega (arith, pow-suc 2 n)
 
 -- two sets with the same members are the same number
 pub has-ext : (n a b : ℕ) → a < 2 ^ n → b < 2 ^ n → ((i : ℕ) → i < n → has a i ≡ has b i) → a ≡ b
-has-ext zero a b ha hb h = omega (arith, native.Mathlib.Nat.pow-zero 2)
+has-ext zero a b ha hb h = omega (arith, pow-zero 2)
 has-ext (suc n) a b ha hb h =
     join
     (sym (has-first a) ∙ h 0 (omega arith) ∙ has-first b)
@@ -127,7 +127,7 @@ has-ext (suc n) a b ha hb h =
 
 -- a set within another is no larger a number
 pub has-sub : (n a b : ℕ) → a < 2 ^ n → ((i : ℕ) → i < n → has a i ≤ has b i) → a ≤ b
-has-sub zero a b ha h = omega (arith, native.Mathlib.Nat.pow-zero 2)
+has-sub zero a b ha h = omega (arith, pow-zero 2)
 has-sub (suc n) a b ha h =
     join (least (has-first a) (has-first b) (h 0 (omega arith)))
     (has-sub n (a / 2) (b / 2) (half-lt n a ha) (λ i l. least (has-next a i) (has-next b i) (h (suc i) (omega arith))))
@@ -143,8 +143,8 @@ has-sub (suc n) a b ha h =
 has-times : (g n m j : ℕ) → has (has g n * m) j ≡ has g n * has m j
 has-times g n m j =
     elim (ℕ-discrete (has g n) 1) [
-      | yes e ↦ rw e (ap (λ (k : ℕ). has k j) (native.Mathlib.Nat.one-mul m) ∙ sym (native.Mathlib.Nat.one-mul (has m j)))
-      | no ne ↦ rw (has-zero g n ne) (ap (λ (k : ℕ). has k j) (native.Mathlib.Nat.zero-mul m) ∙ has-none j ∙ sym (native.Mathlib.Nat.zero-mul (has m j)))
+      | yes e ↦ rw e (ap (λ (k : ℕ). has k j) (one-mul m) ∙ sym (one-mul (has m j)))
+      | no ne ↦ rw (has-zero g n ne) (ap (λ (k : ℕ). has k j) (zero-mul m) ∙ has-none j ∙ sym (zero-mul (has m j)))
     ]
 
 pub union-has : (n : ℕ) (mask : ℕ → ℕ) (g t j : ℕ) → t < n → has g t ≡ 1 → has (mask t) j ≡ 1 → has (union n mask g) j ≡ 1
@@ -165,8 +165,8 @@ union-has (suc n) mask g t j l h k =
 product-one : (a b : ℕ) → a < 2 → a * b ≡ 1 → (a ≡ 1) × (b ≡ 1)
 product-one a b l e =
     elim (ℕ-discrete a 1) [
-      | yes o ↦ (o, sym (native.Mathlib.Nat.one-mul b) ∙ sym (ap (λ (n : ℕ). n * b) o) ∙ e)
-      | no ne ↦ absurd (clash (sym (native.Mathlib.Nat.zero-mul b) ∙ sym (ap (λ (n : ℕ). n * b) (none ne)) ∙ e))
+      | yes o ↦ (o, sym (one-mul b) ∙ sym (ap (λ (n : ℕ). n * b) o) ∙ e)
+      | no ne ↦ absurd (clash (sym (zero-mul b) ∙ sym (ap (λ (n : ℕ). n * b) (none ne)) ∙ e))
     ]
   where
     none : (a ≡ 1 → ⊥) → a ≡ 0
@@ -201,8 +201,8 @@ union-lt (suc n) mask g k h =
     part : mask n < 2 ^ k → has g n * mask n < 2 ^ k
     part l =
         elim (ℕ-discrete (has g n) 1) [
-          | yes e ↦ rw (e, native.Mathlib.Nat.one-mul) l
-          | no ne ↦ rw (has-zero g n ne, native.Mathlib.Nat.zero-mul) (pow-pos k)
+          | yes e ↦ rw (e, one-mul) l
+          | no ne ↦ rw (has-zero g n ne, zero-mul) (pow-pos k)
         ]
 
 -- ---- the count of ones is the number of members
@@ -212,7 +212,7 @@ unfolding sumTo ones
 ones-has zero s h = ap ones (none h)
   where
     none : s < 2 ^ 0 → s ≡ 0
-    none h = omega (arith, native.Mathlib.Nat.pow-zero 2)
+    none h = omega (arith, pow-zero 2)
 ones-has (suc k) s h =
     ones-step s
     ∙ ap₂ _+_ (sym (has-first s)) (ones-has k (s / 2) (half-lt k s h) ∙ sum-cong k (λ i l. sym (has-next s i) ∙ ap (has s) (front i)))
@@ -223,3 +223,12 @@ ones-has (suc k) s h =
 
     peel : (k : ℕ) (f : ℕ → ℕ) → sumTo (suc k) f ≡ f 0 + sumTo k (λ i. f (1 + i))
     peel k f = ap (λ (n : ℕ). sumTo n f) (front k) ∙ sum-split 1 k f ∙ ap (λ (n : ℕ). n + sumTo k (λ i. f (1 + i))) (zero-add (f 0))
+
+-- ---- as code has them: a member by a shift and a mask, one member more by a shift
+
+pub bit-has : (s i : ℕ) → (bitAnd (s / 2 ^ i) 1 ≡ has s i) × (bitAnd (s / 2 ^ i) 1 < 2)
+unfolding has
+bit-has s i = (and-mask (s / 2 ^ i) 1, mask-lt (s / 2 ^ i) 1)
+
+pub bit-with : (w s i : ℕ) → i < w → bitOr s ((1 * 2 ^ i) % 2 ^ w) ≡ bitOr s (2 ^ i)
+bit-with w s i l = ap (bitOr s) (ap (λ (k : ℕ). k % 2 ^ w) (one-mul (2 ^ i)) ∙ mod-eq-of-lt (pow-lt l))

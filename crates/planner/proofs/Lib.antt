@@ -1,3 +1,3 @@
 pub mod Verdict
 pub mod GroupSum
-pub mod Steps
+pub mod StepLaws

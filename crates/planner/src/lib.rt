@@ -1,3 +1,4 @@
 // The planner: from a set of tasks to its frame table, or to a numbered refusal.
 mod excess;
 mod sets;
+mod steps;

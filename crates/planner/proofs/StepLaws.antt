@@ -64,7 +64,7 @@ cell-apart : (a b i j : ℕ) → b < 16 → j < 16 → a * 16 + b ≡ i * 16 + j
 cell-apart a b i j h k e = (omega arith, omega arith)
 
 module _ {F m : ℕ} {budgets masks units left room : List ℕ} (f : Filling F m budgets masks units left room) (i j d : ℕ) (i-in : i < length budgets)
-  (j-in : j < m) where
+    (j-in : j < m) where
   i-small : i < 64
   i-small = omega (arith, f .given .tasks)
 
@@ -108,23 +108,23 @@ module _ {F m : ℕ} {budgets masks units left room : List ℕ} (f : Filling F m
       small l = omega (arith, f .given .cores)
 
   column-change : (other : List ℕ) → Elsewhere other
-    → sumTo (length budgets) (λ a. cell other a j) + cell units i j ≡ sumTo (length budgets) (λ a. cell units a j) + cell other i j
+      → sumTo (length budgets) (λ a. cell other a j) + cell units i j ≡ sumTo (length budgets) (λ a. cell units a j) + cell other i j
   unfolding Elsewhere
   column-change other e =
       sum-change (length budgets) i (λ a. cell units a j) (λ a. cell other a j) i-in (λ a l ne. e a j j-small (λ p. ne (p .0)))
 
   column-same : (other : List ℕ) → Elsewhere other → (b : ℕ) → b < 16 → (b ≡ j → ⊥)
-    → sumTo (length budgets) (λ a. cell other a b) ≡ sumTo (length budgets) (λ a. cell units a b)
+      → sumTo (length budgets) (λ a. cell other a b) ≡ sumTo (length budgets) (λ a. cell units a b)
   unfolding Elsewhere
   column-same other e b h ne = sum-cong (length budgets) (λ a l. e a b h (λ p. ne (p .1)))
 
   -- the sums stand, whatever the amounts, if cell and rest change by as much in opposite ways
   module _ (other left' room' : List ℕ) (elsewhere : Elsewhere other) (allowed : has (at masks i) j ≡ 1)
-    (long : (length other ≡ 1024) × (length left' ≡ 64) × (length room' ≡ 16))
-    (row-even : cell other i j + at left' i ≡ cell units i j + at left i)
-    (column-even : cell other i j + at room' j ≡ cell units i j + at room j)
-    (left-other : (a : ℕ) → (a ≡ i → ⊥) → at left' a ≡ at left a)
-    (room-other : (b : ℕ) → (b ≡ j → ⊥) → at room' b ≡ at room b) where
+      (long : (length other ≡ 1024) × (length left' ≡ 64) × (length room' ≡ 16))
+      (row-even : cell other i j + at left' i ≡ cell units i j + at left i)
+      (column-even : cell other i j + at room' j ≡ cell units i j + at room j)
+      (left-other : (a : ℕ) → (a ≡ i → ⊥) → at left' a ≡ at left a)
+      (room-other : (b : ℕ) → (b ≡ j → ⊥) → at room' b ≡ at room b) where
     changed : Filling F m budgets masks other left' room'
     unfolding Elsewhere
     changed =
@@ -135,15 +135,15 @@ module _ {F m : ℕ} {budgets masks units left room : List ℕ} (f : Filling F m
           room-long = long .2;
           inside = λ a b h z. elsewhere a b h (λ p. clash (sym (ap₂ (λ (s k : ℕ). has (at masks s) k) (p .0) (p .1)) ∙ z)) ∙ f .inside a b h z;
           row = λ a l.
-            elim (ℕ-discrete a i) [
-              | yes e ↦ rw e (even _ _ _ _ _ _ row-even (row-change other elsewhere) (f .row i i-in))
-              | no ne ↦ ap₂ _+_ (row-same other elsewhere a ne) (left-other a ne) ∙ f .row a l
-            ];
+              elim (ℕ-discrete a i) [
+                | yes e ↦ rw e (even _ _ _ _ _ _ row-even (row-change other elsewhere) (f .row i i-in))
+                | no ne ↦ ap₂ _+_ (row-same other elsewhere a ne) (left-other a ne) ∙ f .row a l
+              ];
           column = λ b l.
-            elim (ℕ-discrete b j) [
-              | yes e ↦ rw e (even _ _ _ _ _ _ column-even (column-change other elsewhere) (f .column j j-in))
-              | no ne ↦ ap₂ _+_ (column-same other elsewhere b (small l) ne) (room-other b ne) ∙ f .column b l
-            ]
+              elim (ℕ-discrete b j) [
+                | yes e ↦ rw e (even _ _ _ _ _ _ column-even (column-change other elsewhere) (f .column j j-in))
+                | no ne ↦ ap₂ _+_ (column-same other elsewhere b (small l) ne) (room-other b ne) ∙ f .column b l
+              ];
         }
       where
         clash : has (at masks i) j ≡ 0 → ⊥
@@ -156,7 +156,7 @@ module _ {F m : ℕ} {budgets masks units left room : List ℕ} (f : Filling F m
         even u v r s p q e g h = omega arith
 
   pub placed : has (at masks i) j ≡ 1 → d ≤ at left i → d ≤ at room j
-    → Filling F m budgets masks (raise units (i * 16 + j) d) (lower left i d) (lower room j d)
+      → Filling F m budgets masks (raise units (i * 16 + j) d) (lower left i d) (lower room j d)
   placed allowed l r =
       changed (raise units (i * 16 + j) d) (lower left i d) (lower room j d) raise-elsewhere allowed
       (raise-long units (i * 16 + j) d 1024 (f .units-long), lower-long left i d 64 (f .left-long), lower-long room j d 16 (f .room-long))
@@ -185,6 +185,7 @@ module _ {F m : ℕ} {budgets masks units left room : List ℕ} (f : Filling F m
   place-fits r = omega (arith, sum-term (length budgets) i (λ a. cell units a j) i-in, f .column j j-in, f .given .frame)
 
   pub take-fits : d ≤ cell units i j → (at left i + d ≤ 1000000) × (at room j + d ≤ 1000000)
-  take-fits h =
-      (omega (arith, sum-term m j (cell units i) j-in, f .row i i-in, f .given .small i i-in, f .given .frame),
-       omega (arith, sum-term (length budgets) i (λ a. cell units a j) i-in, f .column j j-in, f .given .frame))
+  take-fits h = (
+    omega (arith, sum-term m j (cell units i) j-in, f .row i i-in, f .given .small i i-in, f .given .frame),
+    omega (arith, sum-term (length budgets) i (λ a. cell units a j) i-in, f .column j j-in, f .given .frame),
+  )

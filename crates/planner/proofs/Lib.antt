@@ -1,3 +1,4 @@
 pub mod Verdict
 pub mod GroupSum
 pub mod StepLaws
+pub mod SearchLaws

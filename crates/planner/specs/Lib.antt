@@ -1,3 +1,4 @@
 pub mod Certificate
 pub mod Flow
 pub mod Fill
+pub mod Search

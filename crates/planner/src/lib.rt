@@ -1,4 +1,5 @@
 // The planner: from a set of tasks to its frame table, or to a numbered refusal.
 mod excess;
+mod search;
 mod sets;
 mod steps;

@@ -1,0 +1,156 @@
+-- Laws of the search: a core is queued, a task is found, and steps follow each other.
+-- Assumes nothing.
+use mathlib.Core.Path.{_≡_, refl, sym, _∙_, ap, ap₂}
+use mathlib.Core.List.{List}
+use Prim.Native.Nat.{ℕ, zero, suc, _+_, _*_, _^_, _≤_, _<_}
+use native.Mathlib.Nat.{le-refl, le-trans}
+use native.Mathlib.Decide.{ℕ-discrete, decLt}
+use native.Mathlib.Omega.{arith}
+use lib.Bits.{bitOr}
+use lib.ListN.{length, getD, set, length-set}
+use lib.Seq.{getD-set-same, getD-set-other}
+use Rattle.rules.specs.Sum.{sumTo}
+use Rattle.rules.specs.Sets.{has}
+use Rattle.rules.specs.Plan.{at}
+use Rattle.sums.proofs.Sum.{sum-lt, sum-const}
+use Rattle.sums.proofs.Sets.{has-le-one, has-zero, has-or, has-lt, with-same, with-other, with-keeps, with-lt}
+use Rattle.planner.specs.Certificate.{cell}
+use Rattle.planner.specs.declared.search.Seen.{Seen}
+use Rattle.planner.specs.Search.{Found, MasksIn, Reached, Swept}
+use Rattle.planner.proofs.StepLaws.{sum-change}
+
+clash : {a : ℕ} → a ≡ 0 → a ≡ 1 → ⊥
+clash e f = omega arith
+
+-- a member and a number that is none are two
+apart : (s i j : ℕ) → has s i ≡ 1 → has s j ≡ 0 → i ≡ j → ⊥
+apart s i j e f d = clash f (sym (ap (has s) d) ∙ e)
+
+-- ---- one core more
+
+module _ (m c j : ℕ) (l : j < m) (z : has c j ≡ 0) where
+  pub count-below : sumTo m (has c) < m
+  count-below = omega (arith, sum-lt m j (has c) (λ i. 1) (λ i k. has-le-one c i) l (less z), sum-const m 1)
+    where
+      less : {a : ℕ} → a ≡ 0 → a < 1
+      less e = omega arith
+
+  pub count-more : sumTo m (has (bitOr c (2 ^ j))) ≡ sumTo m (has c) + 1
+  count-more =
+      one (sumTo m (has c)) (sum-change m j (has c) (has (bitOr c (2 ^ j))) l (λ i k ne. with-other c j i ne)) z (with-same c j)
+    where
+      one : {a f g : ℕ} (b : ℕ) → a + f ≡ b + g → f ≡ 0 → g ≡ 1 → a ≡ b + 1
+      one b e f g = omega arith
+
+-- the state with core j queued
+abbrev pub pushed : Seen → ℕ → Seen
+pushed s j = record { tail = s .tail + 1; tasks = s .tasks; cores = bitOr (s .cores) (2 ^ j) }
+
+-- the state with task t found
+abbrev pub met : Seen → ℕ → Seen
+met s t = record { tail = s .tail; tasks = bitOr (s .tasks) (2 ^ t); cores = s .cores }
+
+-- a place of the queue after a push: the last one, or one that was there
+last-or : (p n : ℕ) → p < n + 1 → (p ≡ n → ⊥) → p < n
+last-or p n l ne = omega arith
+
+module _ {n m : ℕ} {masks units left queue via from : List ℕ} {h : ℕ} {s : Seen} (f : Found n m masks units left queue via from h s) where
+  pub short : s .tail ≤ 16
+  short = omega (arith, f .counted, Rattle.sums.proofs.Sum.sum-count m (has (s .cores)) (λ i l. has-le-one (s .cores) i), f .cores-few)
+
+  module _ (t j : ℕ) (in-tasks : has (s .tasks) t ≡ 1) (j-in : j < m) (in-mask : has (at masks t) j ≡ 1) (new : has (s .cores) j ≡ 0) where
+    tail-small : s .tail < 16
+    tail-small = omega (arith, f .counted, count-below m (s .cores) j j-in new, f .cores-few)
+
+    queue-last : at (set queue (s .tail) j) (s .tail) ≡ j
+    queue-last = getD-set-same queue (s .tail) j 0 (omega (arith, tail-small, f .queue-long))
+
+    via-last : at (set via (s .tail) t) (s .tail) ≡ t
+    via-last = getD-set-same via (s .tail) t 0 (omega (arith, tail-small, f .via-long))
+
+    queue-old : (p : ℕ) → (p ≡ s .tail → ⊥) → at (set queue (s .tail) j) p ≡ at queue p
+    queue-old p ne = getD-set-other queue (s .tail) p j 0 ne
+
+    via-old : (p : ℕ) → (p ≡ s .tail → ⊥) → at (set via (s .tail) t) p ≡ at via p
+    via-old p ne = getD-set-other via (s .tail) p t 0 ne
+
+    -- a fact about each place: of the old ones, and of the last
+    at-each : (Q : ℕ → ℕ → ℕ → Type 0) → ((p : ℕ) → p < s .tail → Q p (at queue p) (at via p)) → Q (s .tail) j t → (p : ℕ) → p < s .tail + 1
+        → Q p (at (set queue (s .tail) j) p) (at (set via (s .tail) t) p)
+    at-each Q old new p l =
+        elim (ℕ-discrete p (s .tail)) [
+          | yes e ↦ rw e (rw (queue-last, via-last) new)
+          | no ne ↦ rw (queue-old p ne, via-old p ne) (old p (last-or p (s .tail) l ne))
+        ]
+
+    pub push : Found n m masks units left (set queue (s .tail) j) (set via (s .tail) t) from h (pushed s j)
+    push =
+        record {
+          tasks-few = f .tasks-few;
+          cores-few = f .cores-few;
+          queue-long = length-set queue (s .tail) j ∙ f .queue-long;
+          via-long = length-set via (s .tail) t ∙ f .via-long;
+          from-long = f .from-long;
+          tasks-in = f .tasks-in;
+          cores-in = with-lt m (s .cores) j (f .cores-in) j-in;
+          counted = ap (λ (k : ℕ). k + 1) (f .counted) ∙ sym (count-more m (s .cores) j j-in new);
+          under = omega (arith, f .under);
+          listed = at-each (λ p q v. has (bitOr (s .cores) (2 ^ j)) q ≡ 1) (λ p l. with-keeps (s .cores) j (at queue p) (f .listed p l)) (with-same (s .cores) j);
+          every = λ i e.
+              elim (ℕ-discrete i j) [
+                | yes d ↦ (s .tail, omega arith, queue-last ∙ sym d)
+                | no ne ↦
+                    let r = f .every i (sym (with-other (s .cores) j i ne) ∙ e) in
+                    (r .0, more (r .1), queue-old (r .0) (lower (r .1)) ∙ r .2)
+              ];
+          through = at-each (λ p q v. has (s .tasks) v ≡ 1) (f .through) in-tasks;
+          allowed = at-each (λ p q v. has (at masks v) q ≡ 1) (f .allowed) in-mask;
+          earlier = at-each (λ p q v. at left v ≡ 0 → at from v < p) (f .earlier) (λ e. omega (arith, f .asked t in-tasks e, f .under));
+          asked = f .asked;
+          holding = λ u e z. rw (queue-old (at from u) (below u e z)) (f .holding u e z);
+        }
+      where
+        more : {p k : ℕ} → p < k → p < k + 1
+        more l = omega arith
+
+        lower : {p k : ℕ} → p < k → p ≡ k → ⊥
+        lower l e = omega arith
+
+        below : (u : ℕ) → has (s .tasks) u ≡ 1 → at left u ≡ 0 → at from u ≡ s .tail → ⊥
+        below u e z d = omega (arith, f .asked u e z, f .under)
+
+  module _ (t p : ℕ) (t-in : t < n) (new : has (s .tasks) t ≡ 0) (through : at left t ≡ 0 → (p < h) × (0 < cell units t (at queue p))) where
+    from-new : at (set from t p) t ≡ p
+    from-new = getD-set-same from t p 0 (omega (arith, f .tasks-few, f .from-long))
+
+    from-old : (u : ℕ) → (u ≡ t → ⊥) → at (set from t p) u ≡ at from u
+    from-old u ne = getD-set-other from t u p 0 ne
+
+    pub meet : Found n m masks units left queue via (set from t p) h (met s t)
+    meet =
+        record {
+          tasks-few = f .tasks-few;
+          cores-few = f .cores-few;
+          queue-long = f .queue-long;
+          via-long = f .via-long;
+          from-long = length-set from t p ∙ f .from-long;
+          tasks-in = with-lt n (s .tasks) t (f .tasks-in) t-in;
+          cores-in = f .cores-in;
+          counted = f .counted;
+          under = f .under;
+          listed = f .listed;
+          every = f .every;
+          through = λ r l. with-keeps (s .tasks) t (at via r) (f .through r l);
+          allowed = f .allowed;
+          earlier = λ r l z. rw (from-old (at via r) (apart (s .tasks) (at via r) t (f .through r l) new)) (f .earlier r l z);
+          asked = λ u e z.
+              elim (ℕ-discrete u t) [
+                | yes d ↦ rw d (rw from-new (through (sym (ap (at left) d) ∙ z) .0))
+                | no ne ↦ rw (from-old u ne) (f .asked u (sym (with-other (s .tasks) t u ne) ∙ e) z)
+              ];
+          holding = λ u e z.
+              elim (ℕ-discrete u t) [
+                | yes d ↦ rw d (rw from-new (through (sym (ap (at left) d) ∙ z) .1))
+                | no ne ↦ rw (from-old u ne) (f .holding u (sym (with-other (s .tasks) t u ne) ∙ e) z)
+              ];
+        }

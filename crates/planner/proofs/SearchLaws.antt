@@ -154,3 +154,122 @@ module _ {n m : ℕ} {masks units left queue via from : List ℕ} {h : ℕ} {s :
                 | no ne ↦ rw (from-old u ne) (f .holding u (sym (with-other (s .tasks) t u ne) ∙ e) z)
               ];
         }
+
+-- ---- a task reaches the cores of its mask
+
+module _ {m t mask : ℕ} {queue via : List ℕ} {s : Seen} where
+  -- nothing new between lo and hi
+  pub reached-none : (lo hi : ℕ) → s .tail ≡ sumTo m (has (s .cores))
+      → ((j : ℕ) → lo ≤ j → j < hi → has mask j ≡ 1 → has (s .cores) j ≡ 1) → Reached m t mask queue via s queue via s lo hi
+  reached-none lo hi e a =
+      record {
+        tasks = refl;
+        longer = le-refl _;
+        counted = e;
+        kept = λ p l. refl;
+        more = λ j h. h;
+        all = a;
+        found = λ n masks units left from h d i f. f;
+      }
+
+  pub reached-one : (j : ℕ) → s .tail ≡ sumTo m (has (s .cores)) → j < m → has mask j ≡ 1 → has (s .cores) j ≡ 0
+      → Reached m t mask queue via s (set queue (s .tail) j) (set via (s .tail) t) (pushed s j) j (j + 1)
+  reached-one j e l i z =
+      record {
+        tasks = refl;
+        longer = omega arith;
+        counted = ap (λ (k : ℕ). k + 1) e ∙ sym (count-more m (s .cores) j l z);
+        kept = λ p k. getD-set-other queue (s .tail) p j 0 (λ d. omega arith);
+        more = λ k h. with-keeps (s .cores) j k h;
+        all = λ k a b h. rw (only k a b) (with-same (s .cores) j);
+        found = λ n masks units left from h d u f. push f t j u l (ap (λ (v : ℕ). has v j) d ∙ i) z;
+      }
+    where
+      only : (k : ℕ) → j ≤ k → k < j + 1 → k ≡ j
+      only k a b = omega arith
+
+  pub reached-then : {queue₁ via₁ queue₂ via₂ : List ℕ} {s₁ s₂ : Seen} {lo mid hi : ℕ} → Reached m t mask queue via s queue₁ via₁ s₁ lo mid
+      → Reached m t mask queue₁ via₁ s₁ queue₂ via₂ s₂ mid hi → Reached m t mask queue via s queue₂ via₂ s₂ lo hi
+  reached-then {s₁ = s₁} {s₂ = s₂} {lo = lo} {mid = mid} {hi = hi} a b =
+      record {
+        tasks = b .tasks ∙ a .tasks;
+        longer = le-trans (a .longer) (b .longer);
+        counted = b .counted;
+        kept = λ p l. b .kept p (le-trans l (a .longer)) ∙ a .kept p l;
+        more = λ j h. b .more j (a .more j h);
+        all = λ j l u h.
+            elim (decLt j mid) [ yes k ↦ b .more j (a .all j l k h) | no g ↦ b .all j (turn g) u h ];
+        found = λ n masks units left from h d i f.
+            b .found n masks units left from h d (ap (λ (v : ℕ). has v t) (a .tasks) ∙ i) (a .found n masks units left from h d i f);
+      }
+    where
+      turn : {j k : ℕ} → (j < k → ⊥) → k ≤ j
+      turn g = omega arith
+
+-- all of the mask is among the cores found
+pub mask-in : (mask cores : ℕ) → bitOr mask cores ≡ cores → (j : ℕ) → has mask j ≡ 1 → has cores j ≡ 1
+mask-in mask cores e j h = omega (arith, has-or mask cores j, ap (λ (v : ℕ). has v j) e, has-lt cores j)
+
+-- ---- tasks are found through a place of the queue
+
+module _ {n m : ℕ} {masks : List ℕ} {weight : ℕ → ℕ} {p : ℕ} {queue via from : List ℕ} {s : Seen} where
+  pub swept-none : (lo hi : ℕ) → s .tail ≡ sumTo m (has (s .cores))
+      → ((t : ℕ) → lo ≤ t → t < hi → 0 < weight t → has (s .tasks) t ≡ 1) → Swept n m masks weight p queue via from s queue via from s lo hi
+  swept-none lo hi e a =
+      record {
+        longer = le-refl _;
+        counted = e;
+        kept = λ r l. refl;
+        more = λ t h. h;
+        all = a;
+        masks-in = λ i. i;
+        found = λ units left h w f. f;
+      }
+
+  pub swept-one : {mask : ℕ} {queue' via' : List ℕ} {s' : Seen} (t : ℕ) → at masks t ≡ mask → t < n → 0 < weight t → has (s .tasks) t ≡ 0
+      → Reached m t mask queue via (met s t) queue' via' s' 0 m → Swept n m masks weight p queue via from s queue' via' (set from t p) s' t (t + 1)
+  swept-one {mask} {s' = s'} t e l w z r =
+      record {
+        longer = r .longer;
+        counted = r .counted;
+        kept = r .kept;
+        more = λ u h. in-tasks u (with-keeps (s .tasks) t u h);
+        all = λ u a b h. in-tasks u (rw (only u a b) (with-same (s .tasks) t));
+        masks-in = λ i u h j k b.
+            elim (ℕ-discrete u t) [
+              | yes d ↦ r .all j (omega arith) k (sym (ap (λ (v : ℕ). has v j) (ap (at masks) d ∙ e)) ∙ b)
+              | no ne ↦ r .more j (i u (sym (with-other (s .tasks) t u ne) ∙ sym (ap (λ (v : ℕ). has v u) (r .tasks)) ∙ h) j k b)
+            ];
+        found = λ units left h why f.
+            r .found n masks units left (set from t p) h e (with-same (s .tasks) t) (meet f t p l z (why t l w));
+      }
+    where
+      only : (k : ℕ) → t ≤ k → k < t + 1 → k ≡ t
+      only k a b = omega arith
+
+      in-tasks : (u : ℕ) → has (bitOr (s .tasks) (2 ^ t)) u ≡ 1 → has (s' .tasks) u ≡ 1
+      in-tasks u h = ap (λ (v : ℕ). has v u) (r .tasks) ∙ h
+
+  pub swept-then : {queue₁ via₁ from₁ queue₂ via₂ from₂ : List ℕ} {s₁ s₂ : Seen} {lo mid hi : ℕ}
+      → Swept n m masks weight p queue via from s queue₁ via₁ from₁ s₁ lo mid
+      → Swept n m masks weight p queue₁ via₁ from₁ s₁ queue₂ via₂ from₂ s₂ mid hi
+      → Swept n m masks weight p queue via from s queue₂ via₂ from₂ s₂ lo hi
+  swept-then {s₁ = s₁} {s₂ = s₂} {lo = lo} {mid = mid} {hi = hi} a b =
+      record {
+        longer = le-trans (a .longer) (b .longer);
+        counted = b .counted;
+        kept = λ r l. b .kept r (le-trans l (a .longer)) ∙ a .kept r l;
+        more = λ t h. b .more t (a .more t h);
+        all = λ t l u h.
+            elim (decLt t mid) [ yes k ↦ b .more t (a .all t l k h) | no g ↦ b .all t (turn g) u h ];
+        masks-in = λ i. b .masks-in (a .masks-in i);
+        found = λ units left h why f.
+            b .found units left h
+            (λ t l w z.
+            let r = why t l w z in
+            (r .0, rw (a .kept p (le-trans (r .0) (f .under))) (r .1)))
+            (a .found units left h why f);
+      }
+    where
+      turn : {j k : ℕ} → (j < k → ⊥) → k ≤ j
+      turn g = omega arith

@@ -273,3 +273,28 @@ module _ {n m : ℕ} {masks : List ℕ} {weight : ℕ → ℕ} {p : ℕ} {queue 
     where
       turn : {j k : ℕ} → (j < k → ⊥) → k ≤ j
       turn g = omega arith
+
+-- ---- as the code asks: a is the mask's bit, b that of the cores found
+
+none-yet : {b v : ℕ} → b ≡ v → b < 2 → (b ≡ 1 → ⊥) → v ≡ 0
+none-yet d bit new = omega arith
+
+pub one-place : (m c j tail b : ℕ) → m ≤ 16 → tail ≡ sumTo m (has c) → j < m → b ≡ has c j → b < 2 → (b ≡ 1 → ⊥) → tail < 16
+one-place m c j tail b h e l d bit new = omega (arith, count-below m c j l (none-yet d bit new))
+
+module _ {m t mask : ℕ} {queue via : List ℕ} {s : Seen} (j : ℕ) (e : s .tail ≡ sumTo m (has (s .cores))) where
+  pub one-outside : {a : ℕ} → a ≡ has mask j → a ≡ 0 → Reached m t mask queue via s queue via s j (j + 1)
+  one-outside d z = reached-none j (j + 1) e (λ k l u h. absurd (clash (sym d ∙ z) (sym (ap (has mask) (only k l u)) ∙ h)))
+    where
+      only : (k : ℕ) → j ≤ k → k < j + 1 → k ≡ j
+      only k l u = omega arith
+
+  pub one-known : {b : ℕ} → b ≡ has (s .cores) j → b ≡ 1 → Reached m t mask queue via s queue via s j (j + 1)
+  one-known d o = reached-none j (j + 1) e (λ k l u h. ap (has (s .cores)) (only k l u) ∙ sym d ∙ o)
+    where
+      only : (k : ℕ) → j ≤ k → k < j + 1 → k ≡ j
+      only k l u = omega arith
+
+  pub one-new : {a b k : ℕ} → j < m → a ≡ has mask j → a < 2 → (a ≡ 0 → ⊥) → b ≡ has (s .cores) j → b < 2 → (b ≡ 1 → ⊥) → k ≡ bitOr (s .cores) (2 ^ j)
+      → Reached m t mask queue via s (set queue (s .tail) j) (set via (s .tail) t) (record { tail = s .tail + 1; tasks = s .tasks; cores = k }) j (j + 1)
+  one-new l h i g d bit new c = rw c (reached-one j e l (omega arith) (none-yet d bit new))

@@ -1,10 +1,54 @@
 // The search for a core with room: breadth first from the tasks that lack units. A task reaches the cores of its mask, a full core the
 // tasks with units on it. Each core is queued once, with the task through which it was reached; each task keeps the place in the queue
 // through which it was found.
+ghost use mathlib.Core.Path.{_≡_};
+ghost use mathlib.Core.List.{List};
+ghost use Prim.Native.Nat.{ℕ, _+_, _≤_, _<_};
+ghost use lib.ListN.{length};
+ghost use Rattle.rules.specs.Sum.{sumTo};
+ghost use Rattle.rules.specs.Sets.{has};
+ghost use Rattle.rules.specs.Plan.{at};
+ghost use Rattle.planner.specs.Search.{Reached, Swept};
+use crate::sets::core_in;
+use crate::sets::task_in;
+use crate::sets::with_core;
+use crate::sets::with_task;
 
 // What was found: so many cores queued, which tasks, which cores.
 pub(crate) struct Seen {
     pub tail: usize,
     pub tasks: u64,
     pub cores: u16,
+}
+
+// Core j is queued for task t, if its mask holds it and no task has reached it.
+fn reach_one(
+    cores: usize,
+    t: usize,
+    mask: u16,
+    queue: &mut [usize; 16],
+    via: &mut [usize; 16],
+    seen: Seen,
+    j: usize,
+) -> Seen
+    requires { ⌜ (cores ≤ 16) × (j < cores) × (seen .tail ≡ sumTo cores (has (seen .cores))) ⌝ }
+    ensures { λ r. ⌜
+        Reached cores t mask (now (queue .entry)) (now (via .entry)) seen (now (queue .exit)) (now (via .exit)) r j (j + 1)
+        ⌝ }
+{
+    let tail = seen.tail;
+    let found = seen.cores;
+    if core_in(mask, j) == 0 {
+        return seen;
+    }
+    if core_in(found, j) == 1 {
+        return seen;
+    }
+    queue[tail] = j;
+    via[tail] = t;
+    Seen {
+        tail: tail + 1,
+        tasks: seen.tasks,
+        cores: with_core(found, j),
+    }
 }

@@ -22,6 +22,10 @@ use Rattle.planner.proofs.StepLaws.{sum-change}
 clash : {a : ℕ} → a ≡ 0 → a ≡ 1 → ⊥
 clash e f = omega arith
 
+-- the one number from t up to t + 1
+only-at : (t u : ℕ) → t ≤ u → u < t + 1 → u ≡ t
+only-at t u l k = omega arith
+
 -- a member and a number that is none are two
 apart : (s i j : ℕ) → has s i ≡ 1 → has s j ≡ 0 → i ≡ j → ⊥
 apart s i j e f d = clash f (sym (ap (has s) d) ∙ e)
@@ -181,12 +185,9 @@ module _ {m t mask : ℕ} {queue via : List ℕ} {s : Seen} where
         counted = ap (λ (k : ℕ). k + 1) e ∙ sym (count-more m (s .cores) j l z);
         kept = λ p k. getD-set-other queue (s .tail) p j 0 (λ d. omega arith);
         more = λ k h. with-keeps (s .cores) j k h;
-        all = λ k a b h. rw (only k a b) (with-same (s .cores) j);
+        all = λ k a b h. rw (only-at j k a b) (with-same (s .cores) j);
         found = λ n masks units left from h d u f. push f t j u l (ap (λ (v : ℕ). has v j) d ∙ i) z;
       }
-    where
-      only : (k : ℕ) → j ≤ k → k < j + 1 → k ≡ j
-      only k a b = omega arith
 
   pub reached-then : {queue₁ via₁ queue₂ via₂ : List ℕ} {s₁ s₂ : Seen} {lo mid hi : ℕ} → Reached m t mask queue via s queue₁ via₁ s₁ lo mid
       → Reached m t mask queue₁ via₁ s₁ queue₂ via₂ s₂ mid hi → Reached m t mask queue via s queue₂ via₂ s₂ lo hi
@@ -234,7 +235,7 @@ module _ {n m : ℕ} {masks : List ℕ} {weight : ℕ → ℕ} {p : ℕ} {queue 
         counted = r .counted;
         kept = r .kept;
         more = λ u h. in-tasks u (with-keeps (s .tasks) t u h);
-        all = λ u a b h. in-tasks u (rw (only u a b) (with-same (s .tasks) t));
+        all = λ u a b h. in-tasks u (rw (only-at t u a b) (with-same (s .tasks) t));
         masks-in = λ i u h j k b.
             elim (ℕ-discrete u t) [
               | yes d ↦ r .all j (omega arith) k (sym (ap (λ (v : ℕ). has v j) (ap (at masks) d ∙ e)) ∙ b)
@@ -244,9 +245,6 @@ module _ {n m : ℕ} {masks : List ℕ} {weight : ℕ → ℕ} {p : ℕ} {queue 
             r .found n masks units left (set from t p) h e (with-same (s .tasks) t) (meet f t p l z (why t l w));
       }
     where
-      only : (k : ℕ) → t ≤ k → k < t + 1 → k ≡ t
-      only k a b = omega arith
-
       in-tasks : (u : ℕ) → has (bitOr (s .tasks) (2 ^ t)) u ≡ 1 → has (s' .tasks) u ≡ 1
       in-tasks u h = ap (λ (v : ℕ). has v u) (r .tasks) ∙ h
 
@@ -284,17 +282,44 @@ one-place m c j tail b h e l d bit new = omega (arith, count-below m c j l (none
 
 module _ {m t mask : ℕ} {queue via : List ℕ} {s : Seen} (j : ℕ) (e : s .tail ≡ sumTo m (has (s .cores))) where
   pub one-outside : {a : ℕ} → a ≡ has mask j → a ≡ 0 → Reached m t mask queue via s queue via s j (j + 1)
-  one-outside d z = reached-none j (j + 1) e (λ k l u h. absurd (clash (sym d ∙ z) (sym (ap (has mask) (only k l u)) ∙ h)))
-    where
-      only : (k : ℕ) → j ≤ k → k < j + 1 → k ≡ j
-      only k l u = omega arith
+  one-outside d z = reached-none j (j + 1) e (λ k l u h. absurd (clash (sym d ∙ z) (sym (ap (has mask) (only-at j k l u)) ∙ h)))
 
   pub one-known : {b : ℕ} → b ≡ has (s .cores) j → b ≡ 1 → Reached m t mask queue via s queue via s j (j + 1)
-  one-known d o = reached-none j (j + 1) e (λ k l u h. ap (has (s .cores)) (only k l u) ∙ sym d ∙ o)
-    where
-      only : (k : ℕ) → j ≤ k → k < j + 1 → k ≡ j
-      only k l u = omega arith
+  one-known d o = reached-none j (j + 1) e (λ k l u h. ap (has (s .cores)) (only-at j k l u) ∙ sym d ∙ o)
 
   pub one-new : {a b k : ℕ} → j < m → a ≡ has mask j → a < 2 → (a ≡ 0 → ⊥) → b ≡ has (s .cores) j → b < 2 → (b ≡ 1 → ⊥) → k ≡ bitOr (s .cores) (2 ^ j)
       → Reached m t mask queue via s (set queue (s .tail) j) (set via (s .tail) t) (record { tail = s .tail + 1; tasks = s .tasks; cores = k }) j (j + 1)
   one-new l h i g d bit new c = rw c (reached-one j e l (omega arith) (none-yet d bit new))
+
+module _ {m t mask : ℕ} {queue via : List ℕ} {s : Seen} where
+  pub reach-known : s .tail ≡ sumTo m (has (s .cores)) → bitOr mask (s .cores) ≡ s .cores → Reached m t mask queue via s queue via s 0 m
+  reach-known e d = reached-none 0 m e (λ j l u h. mask-in mask (s .cores) d j h)
+
+  pub reach-start : s .tail ≡ sumTo m (has (s .cores)) → Reached m t mask queue via s queue via s 0 0
+  reach-start e = reached-none 0 0 e (λ j l u h. absurd (never u))
+    where
+      never : {j : ℕ} → j < 0 → ⊥
+      never l = omega arith
+
+  pub reach-end : {queue' via' : List ℕ} {s' : Seen} {j : ℕ} → j ≤ m → m ≤ j → Reached m t mask queue via s queue' via' s' 0 j
+      → Reached m t mask queue via s queue' via' s' 0 m
+  reach-end {queue'} {via'} {s'} {j} l u r = rw (meet-at l u) at r
+    where
+      meet-at : j ≤ m → m ≤ j → j ≡ m
+      meet-at l u = omega arith
+
+module _ {n m : ℕ} {masks : List ℕ} {weight : ℕ → ℕ} {p : ℕ} {queue via from : List ℕ} {s : Seen} (t : ℕ) (e : s .tail ≡ sumTo m (has (s .cores))) where
+  pub find-nothing : {v : ℕ} → weight t ≡ v → v ≡ 0 → Swept n m masks weight p queue via from s queue via from s t (t + 1)
+  find-nothing d z = swept-none t (t + 1) e (λ u l k h. absurd (none (ap weight (only-at t u l k)) h))
+    where
+      none : {a : ℕ} → a ≡ weight t → 0 < a → ⊥
+      none f h = omega arith
+
+  pub find-known : {b : ℕ} → b ≡ has (s .tasks) t → b ≡ 1 → Swept n m masks weight p queue via from s queue via from s t (t + 1)
+  find-known d o = swept-none t (t + 1) e (λ u l k h. ap (has (s .tasks)) (only-at t u l k) ∙ sym d ∙ o)
+
+  pub find-new : {mask v b k : ℕ} {queue' via' : List ℕ} {s' : Seen} → at masks t ≡ mask → weight t ≡ v → t < n → (v ≡ 0 → ⊥) → b ≡ has (s .tasks) t
+      → b < 2 → (b ≡ 1 → ⊥) → k ≡ bitOr (s .tasks) (2 ^ t)
+      → Reached m t mask queue via (record { tail = s .tail; tasks = k; cores = s .cores }) queue' via' s' 0 m
+      → Swept n m masks weight p queue via from s queue' via' (set from t p) s' t (t + 1)
+  find-new d w l g f bit new c r = swept-one t d l (omega arith) (none-yet f bit new) (rw c at r)

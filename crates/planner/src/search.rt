@@ -52,3 +52,84 @@ fn reach_one(
         cores: with_core(found, j),
     }
 }
+
+// Task t reaches the cores of its mask.
+fn reach(
+    cores: usize,
+    t: usize,
+    mask: u16,
+    queue: &mut [usize; 16],
+    via: &mut [usize; 16],
+    seen: Seen,
+) -> Seen
+    requires { ⌜ (cores ≤ 16) × (seen .tail ≡ sumTo cores (has (seen .cores))) ⌝ }
+    ensures { λ r. ⌜
+        Reached cores t mask (now (queue .entry)) (now (via .entry)) seen (now (queue .exit)) (now (via .exit)) r 0 cores
+        ⌝ }
+{
+    let found = seen.cores;
+    if (mask | found) == found {
+        return seen;
+    }
+    let mut s = seen;
+    let mut j = 0;
+    while j < cores {
+        s = reach_one(cores, t, mask, queue, via, s, j);
+        j += 1;
+    }
+    s
+}
+
+// Task t, if it weighs anything and was not found before, is found through the place p of the queue, and reaches its cores.
+fn find(
+    cores: usize,
+    t: usize,
+    mask: u16,
+    weight: u32,
+    p: usize,
+    queue: &mut [usize; 16],
+    via: &mut [usize; 16],
+    from: &mut [usize; 64],
+    seen: Seen,
+) -> Seen
+    requires { ⌜ (cores ≤ 16) × (t < 64) × (seen .tail ≡ sumTo cores (has (seen .cores))) ⌝ }
+    ensures { λ r. ⌜
+        ((n : ℕ)
+        (masks : List ℕ)
+        (w : ℕ → ℕ) →
+        at masks t ≡ mask →
+        w t ≡ weight →
+        t < n →
+        Swept
+        n
+        cores
+        masks
+        w
+        p
+        (now (queue .entry))
+        (now (via .entry))
+        (now (from .entry))
+        seen
+        (now (queue .exit))
+        (now (via .exit))
+        (now (from .exit))
+        r
+        t
+        (t + 1))
+        ⌝ }
+{
+    let tasks = seen.tasks;
+    if weight == 0 {
+        return seen;
+    }
+    if task_in(tasks, t) == 1 {
+        return seen;
+    }
+    from[t] = p;
+    let next = Seen {
+        tail: seen.tail,
+        tasks: with_task(tasks, t),
+        cores: seen.cores,
+    };
+    reach(cores, t, mask, queue, via, next)
+}

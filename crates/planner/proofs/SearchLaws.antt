@@ -12,8 +12,8 @@ use lib.Seq.{getD-set-same, getD-set-other}
 use Rattle.rules.specs.Sum.{sumTo}
 use Rattle.rules.specs.Sets.{has}
 use Rattle.rules.specs.Plan.{at}
-use Rattle.sums.proofs.Sum.{sum-lt, sum-const}
-use Rattle.sums.proofs.Sets.{has-le-one, has-zero, has-or, has-lt, with-same, with-other, with-keeps, with-lt}
+use Rattle.sums.proofs.Sum.{sum-lt, sum-const, sum-count, sum-zero}
+use Rattle.sums.proofs.Sets.{has-none, has-le-one, has-zero, has-or, has-lt, with-same, with-other, with-keeps, with-lt}
 use Rattle.planner.specs.Certificate.{cell}
 use Rattle.planner.specs.declared.search.Seen.{Seen}
 use Rattle.planner.specs.Search.{Found, MasksIn, Reached, Swept}
@@ -60,7 +60,7 @@ last-or p n l ne = omega arith
 
 module _ {n m : ℕ} {masks units left queue via from : List ℕ} {h : ℕ} {s : Seen} (f : Found n m masks units left queue via from h s) where
   pub short : s .tail ≤ 16
-  short = omega (arith, f .counted, Rattle.sums.proofs.Sum.sum-count m (has (s .cores)) (λ i l. has-le-one (s .cores) i), f .cores-few)
+  short = omega (arith, f .counted, sum-count m (has (s .cores)) (λ i l. has-le-one (s .cores) i), f .cores-few)
 
   module _ (t j : ℕ) (in-tasks : has (s .tasks) t ≡ 1) (j-in : j < m) (in-mask : has (at masks t) j ≡ 1) (new : has (s .cores) j ≡ 0) where
     tail-small : s .tail < 16
@@ -323,3 +323,22 @@ module _ {n m : ℕ} {masks : List ℕ} {weight : ℕ → ℕ} {p : ℕ} {queue 
       → Reached m t mask queue via (record { tail = s .tail; tasks = k; cores = s .cores }) queue' via' s' 0 m
       → Swept n m masks weight p queue via from s queue' via' (set from t p) s' t (t + 1)
   find-new d w l g f bit new c r = swept-one t d l (omega arith) (none-yet f bit new) (rw c at r)
+
+-- ---- all tasks in turn
+
+pub counted-nothing : (m : ℕ) → 0 ≡ sumTo m (has 0)
+counted-nothing m = sym (sum-zero m (λ j l. has-none j))
+
+module _ {n m : ℕ} {masks : List ℕ} {weight : ℕ → ℕ} {p : ℕ} {queue via from : List ℕ} {s : Seen} where
+  pub sweep-start : s .tail ≡ sumTo m (has (s .cores)) → Swept n m masks weight p queue via from s queue via from s 0 0
+  sweep-start e = swept-none 0 0 e (λ j l u h. absurd (never u))
+    where
+      never : {j : ℕ} → j < 0 → ⊥
+      never l = omega arith
+
+  pub sweep-end : {queue' via' from' : List ℕ} {s' : Seen} {t : ℕ} → t ≤ n → n ≤ t → Swept n m masks weight p queue via from s queue' via' from' s' 0 t
+      → Swept n m masks weight p queue via from s queue' via' from' s' 0 n
+  sweep-end {queue'} {via'} {from'} {s'} {t} l u r = rw (meet-at l u) at r
+    where
+      meet-at : t ≤ n → n ≤ t → t ≡ n
+      meet-at l u = omega arith

@@ -60,3 +60,7 @@ pub record Swept (n m : ℕ) (masks : List ℕ) (weight : ℕ → ℕ) (p : ℕ)
   pub found : (units left : List ℕ) (h : ℕ) →
       ((t : ℕ) → t < n → 0 < weight t → at left t ≡ 0 → (p < h) × (0 < cell units t (at queue p))) →
       Found n m masks units left queue via from h s → Found n m masks units left queue' via' from' h s'
+
+-- nothing is found
+abbrev pub nothing : Seen
+nothing = record { tail = 0; tasks = 0; cores = 0 }

@@ -8,7 +8,8 @@ ghost use lib.ListN.{length};
 ghost use Rattle.rules.specs.Sum.{sumTo};
 ghost use Rattle.rules.specs.Sets.{has};
 ghost use Rattle.rules.specs.Plan.{at};
-ghost use Rattle.planner.specs.Search.{Reached, Swept};
+ghost use Rattle.planner.specs.Search.{Reached, Swept, nothing};
+ghost use Rattle.planner.specs.Certificate.{cell};
 use crate::sets::core_in;
 use crate::sets::task_in;
 use crate::sets::with_core;
@@ -132,4 +133,103 @@ fn find(
         cores: seen.cores,
     };
     reach(cores, t, mask, queue, via, next)
+}
+
+// The starts: all tasks that lack units.
+fn begin(
+    cores: usize,
+    masks: &[u16],
+    left: &[u32; 64],
+    queue: &mut [usize; 16],
+    via: &mut [usize; 16],
+    from: &mut [usize; 64],
+) -> Seen
+    requires { ⌜ (cores ≤ 16) × (length (now masks) ≤ 64) ⌝ }
+    ensures { λ r. ⌜
+        Swept
+        (length (now (masks .entry)))
+        cores
+        (now (masks .entry))
+        (at (now (left .entry)))
+        0
+        (now (queue .entry))
+        (now (via .entry))
+        (now (from .entry))
+        nothing
+        (now (queue .exit))
+        (now (via .exit))
+        (now (from .exit))
+        r
+        0
+        (length (now (masks .entry)))
+        ⌝ }
+{
+    let mut s = Seen {
+        tail: 0,
+        tasks: 0,
+        cores: 0,
+    };
+    let mut t = 0;
+    while t < masks.len() {
+        s = find(cores, t, masks[t], left[t], 0, queue, via, from, s);
+        t += 1;
+    }
+    s
+}
+
+// The tasks with units on the core at the place p of the queue are found through it.
+fn expand(
+    cores: usize,
+    masks: &[u16],
+    units: &[u32; 1024],
+    p: usize,
+    queue: &mut [usize; 16],
+    via: &mut [usize; 16],
+    from: &mut [usize; 64],
+    seen: Seen,
+) -> Seen
+    requires { ⌜
+        (cores ≤ 16)
+        × (length (now masks) ≤ 64)
+        × (p < 16)
+        × (at (now queue) p < 16)
+        × (seen .tail ≡ sumTo cores (has (seen .cores)))
+        ⌝ }
+    ensures { λ r. ⌜
+        Swept
+        (length (now (masks .entry)))
+        cores
+        (now (masks .entry))
+        (λ t. cell (now (units .entry)) t (at (now (queue .entry)) p))
+        p
+        (now (queue .entry))
+        (now (via .entry))
+        (now (from .entry))
+        seen
+        (now (queue .exit))
+        (now (via .exit))
+        (now (from .exit))
+        r
+        0
+        (length (now (masks .entry)))
+        ⌝ }
+{
+    let core = queue[p];
+    let mut s = seen;
+    let mut t = 0;
+    while t < masks.len() {
+        s = find(
+            cores,
+            t,
+            masks[t],
+            units[t * 16 + core],
+            p,
+            queue,
+            via,
+            from,
+            s,
+        );
+        t += 1;
+    }
+    s
 }

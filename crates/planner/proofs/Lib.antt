@@ -2,3 +2,4 @@ pub mod Verdict
 pub mod GroupSum
 pub mod StepLaws
 pub mod SearchLaws
+pub mod SeekLaws

@@ -9,7 +9,10 @@ use Rattle.rules.specs.Sum.{sumTo}
 use Rattle.rules.specs.Sets.{has}
 use Rattle.rules.specs.Plan.{at}
 use Rattle.planner.specs.Certificate.{cell}
+use Rattle.planner.specs.Flow.{Stuck}
 use Rattle.planner.specs.declared.search.Seen.{Seen}
+use Rattle.planner.specs.declared.search.Outcome.{Outcome}
+use Rattle.planner.specs.declared.search.Outcome.the-variants.{Room, Closed}
 
 -- what holds of all that was found, when the cores before the place h have been asked for their tasks
 pub record Found (n m : ℕ) (masks units left queue via from : List ℕ) (h : ℕ) (s : Seen) : Type 0 where
@@ -64,3 +67,33 @@ pub record Swept (n m : ℕ) (masks : List ℕ) (weight : ℕ → ℕ) (p : ℕ)
 -- nothing is found
 abbrev pub nothing : Seen
 nothing = record { tail = 0; tasks = 0; cores = 0 }
+
+-- the lists of the search have their lengths
+pub record Sized (queue via from : List ℕ) : Type 0 where
+  pub queue-long : length queue ≡ 16
+  pub via-long : length via ≡ 16
+  pub from-long : length from ≡ 64
+
+-- the cores before the place h of the queue are full and were asked for their tasks, and no core is left out
+pub record Sought (n m : ℕ) (masks units left room queue via from : List ℕ) (h : ℕ) (s : Seen) : Type 0 where
+  pub found : Found n m masks units left queue via from h s
+  pub starts : (t : ℕ) → t < n → 0 < at left t → has (s .tasks) t ≡ 1
+  pub masks-in : MasksIn m masks s
+  pub full : (p : ℕ) → p < h → at room (at queue p) ≡ 0
+  pub held : (p : ℕ) → p < h → (t : ℕ) → t < n → 0 < cell units t (at queue p) → has (s .tasks) t ≡ 1
+
+-- the way back from the place p, whose core has room: at each place a task whose mask holds its core; if it lacks nothing, it has units on
+-- the core of an earlier place
+pub record Way (n m : ℕ) (masks units left room queue via from : List ℕ) (p : ℕ) : Type 0 where
+  pub place : p < 16
+  pub core : (r : ℕ) → r ≤ p → at queue r < m
+  pub task : (r : ℕ) → r ≤ p → at via r < n
+  pub allowed : (r : ℕ) → r ≤ p → has (at masks (at via r)) (at queue r) ≡ 1
+  pub earlier : (r : ℕ) → r ≤ p → at left (at via r) ≡ 0 → at from (at via r) < r
+  pub holding : (r : ℕ) → r ≤ p → at left (at via r) ≡ 0 → 0 < cell units (at via r) (at queue (at from (at via r)))
+  pub room-there : 0 < at room (at queue p)
+
+-- what the search answers
+abbrev pub Sight : (n m : ℕ) → (masks units left room queue via from : List ℕ) → Outcome → Type 0
+Sight n m masks units left room queue via from (Room p) = Way n m masks units left room queue via from p
+Sight n m masks units left room queue via from (Closed g c) = Stuck n m (at masks) (cell units) (at left) (at room) g c

@@ -8,7 +8,7 @@ ghost use lib.ListN.{length};
 ghost use Rattle.rules.specs.Sum.{sumTo};
 ghost use Rattle.rules.specs.Sets.{has};
 ghost use Rattle.rules.specs.Plan.{at};
-ghost use Rattle.planner.specs.Search.{Reached, Swept, nothing};
+ghost use Rattle.planner.specs.Search.{Reached, Swept, Sized, Sight, nothing};
 ghost use Rattle.planner.specs.Certificate.{cell};
 use crate::sets::core_in;
 use crate::sets::task_in;
@@ -20,6 +20,12 @@ pub(crate) struct Seen {
     pub tail: usize,
     pub tasks: u64,
     pub cores: u16,
+}
+
+// A place of the queue whose core has room, or all that can be reached, where no core has.
+pub(crate) enum Outcome {
+    Room(usize),
+    Closed { tasks: u64, cores: u16 },
 }
 
 // Core j is queued for task t, if its mask holds it and no task has reached it.
@@ -232,4 +238,47 @@ fn expand(
         t += 1;
     }
     s
+}
+
+// Core after core of the queue, until one has room or none is left.
+pub(crate) fn seek(
+    cores: usize,
+    masks: &[u16],
+    units: &[u32; 1024],
+    left: &[u32; 64],
+    room: &[u32; 16],
+    queue: &mut [usize; 16],
+    via: &mut [usize; 16],
+    from: &mut [usize; 64],
+) -> Outcome
+    requires { ⌜ (cores ≤ 16) × (length (now masks) ≤ 64) × Sized (now queue) (now via) (now from) ⌝ }
+    ensures { λ r. ⌜
+        Sized (now (queue .exit)) (now (via .exit)) (now (from .exit))
+        × Sight
+        (length (now (masks .entry)))
+        cores
+        (now (masks .entry))
+        (now (units .entry))
+        (now (left .entry))
+        (now (room .entry))
+        (now (queue .exit))
+        (now (via .exit))
+        (now (from .exit))
+        r
+        ⌝ }
+{
+    let mut s = begin(cores, masks, left, queue, via, from);
+    let mut head = 0;
+    while head < s.tail {
+        let core = queue[head];
+        if 0 < room[core] {
+            return Outcome::Room(head);
+        }
+        s = expand(cores, masks, units, head, queue, via, from, s);
+        head += 1;
+    }
+    Outcome::Closed {
+        tasks: s.tasks,
+        cores: s.cores,
+    }
 }

@@ -3,3 +3,4 @@ pub mod GroupSum
 pub mod StepLaws
 pub mod SearchLaws
 pub mod SeekLaws
+pub mod BackLaws

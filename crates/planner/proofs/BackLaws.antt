@@ -1,7 +1,7 @@
 -- The way back: each step takes units from an earlier core and places them on the one with room, and the last places units of a task that
 -- lacks some.
 -- Assumes nothing.
-use mathlib.Core.Path.{_≡_, refl, sym, _∙_, ap, ap₂}
+use mathlib.Core.Path.{_≡_, refl, sym, _∙_, ap, ap₂, subst}
 use mathlib.Core.List.{List}
 use Prim.Native.Nat.{ℕ, zero, suc, min, _+_, _-_, _*_, _^_, _≤_, _<_}
 use native.Mathlib.Nat.{le-refl, le-trans, min-le-left, min-le-right}
@@ -15,6 +15,8 @@ use Rattle.sums.proofs.Sets.{has-one}
 use Rattle.planner.specs.Certificate.{cell}
 use Rattle.planner.specs.Fill.{Filling, raise, lower}
 use Rattle.planner.specs.Search.{Way}
+use Rattle.planner.specs.Back.{ShiftFits, Shifted, PlaceFits, Placed, Reads, backward, lacking}
+use Rattle.planner.specs.Filled.{MoreBy}
 use Rattle.planner.proofs.StepLaws.{sum-change, raise-same, raise-other, lower-same, lower-other, raise-lower, taken, placed, place-fits, take-fits}
 
 module _ {F m : ℕ} {budgets masks units left room queue via from : List ℕ} (f : Filling F m budgets masks units left room) where
@@ -178,3 +180,66 @@ module _ {F m : ℕ} {budgets masks units left room queue via from : List ℕ} (
 
             twice : (r : ℕ) → r ≤ at from (at via p) → at via r ≡ at via p → at from (at via r) < r → ⊥
             twice r l s h = omega (arith, ap (at from) s)
+
+-- ---- as the code takes the steps
+
+module _ {F m : ℕ} {budgets masks units left room queue via from : List ℕ} {p : ℕ} (f : Filling F m budgets masks units left room)
+    (w : Way (length budgets) m masks units left room queue via from p) where
+  pub back-ready : at left (at via p) ≡ 0
+      → Reads queue via from p × ShiftFits units left room (at via p) (at queue (at from (at via p))) (at queue p) (backward units room queue via from p)
+  back-ready z = (
+    record {
+      place = w .place;
+      task = way-small f w .1;
+      core = way-small f w .2;
+      earlier = back-small f w z .1;
+      earlier-core = back-small f w z .2;
+    },
+    record {
+      task = way-small f w .1;
+      old = back-small f w z .2;
+      new = way-small f w .2;
+      units-there = back-fits f w z (backward units room queue via from p) refl .0;
+      left-fits = back-fits f w z (backward units room queue via from p) refl .1;
+      room-fits = back-fits f w z (backward units room queue via from p) refl .2;
+      left-there = shift-fits f w z (backward units room queue via from p) refl .0;
+      room-there = shift-fits f w z (backward units room queue via from p) refl .1;
+      units-fit = shift-fits f w z (backward units room queue via from p) refl .2;
+    },
+  )
+
+  pub back-kept : {units' left' room' start : List ℕ} {r : ℕ} → at left (at via p) ≡ 0 → left ≡ start → r ≡ at from (at via p)
+      → Shifted units left room (at via p) (at queue (at from (at via p))) (at queue p) (backward units room queue via from p) units' left' room'
+      → Filling F m budgets masks units' left' room' × Way (length budgets) m masks units' left' room' queue via from r × (left' ≡ start)
+  back-kept z o e s = (
+    rw (s .units-now, s .left-now, s .room-now) (shift-filling f w z (backward units room queue via from p) refl),
+    rw (e, s .units-now, s .left-now, s .room-now, shift-left f w z (backward units room queue via from p) refl)
+        (shift-way f w z (backward units room queue via from p) refl),
+    s .left-now ∙ shift-left f w z (backward units room queue via from p) refl ∙ o,
+  )
+
+  pub last-ready : (p < 16) × PlaceFits units left room (at via p) (at queue p) (lacking left room queue via p)
+  last-ready = (
+    w .place,
+    record {
+      task = way-small f w .1;
+      core = way-small f w .2;
+      left-there = last-fits f w (lacking left room queue via p) refl .0;
+      room-there = last-fits f w (lacking left room queue via p) refl .1;
+      units-fit = last-fits f w (lacking left room queue via p) refl .2;
+    },
+  )
+
+  pub last-kept : {units' left' room' start : List ℕ} → (at left (at via p) ≡ 0 → ⊥) → left ≡ start
+      → Placed units left room (at via p) (at queue p) (lacking left room queue via p) units' left' room' → MoreBy F m budgets masks start units' left' room'
+  last-kept ne o s =
+      record {
+        filling = rw (s .units-now, s .left-now, s .room-now) (last-filling f w (lacking left room queue via p) refl);
+        less = rw (s .left-now, ← o) (last-less f w (lacking left room queue via p) refl ne);
+      }
+
+-- masks and budgets are as many
+pub way-paired : {F m : ℕ} {budgets masks units left room queue via from : List ℕ} {p : ℕ} → Filling F m budgets masks units left room
+    → Way (length masks) m masks units left room queue via from p → Way (length budgets) m masks units left room queue via from p
+way-paired {m = m} {masks = masks} {units = units} {left = left} {room = room} {queue = queue} {via = via} {from = from} {p = p} f w =
+    subst (λ (n : ℕ). Way n m masks units left room queue via from p) (f .given .paired) w

@@ -4,3 +4,5 @@ pub mod StepLaws
 pub mod SearchLaws
 pub mod SeekLaws
 pub mod BackLaws
+pub mod ShiftLaws
+pub mod EndLaws

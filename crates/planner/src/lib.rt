@@ -1,5 +1,6 @@
 // The planner: from a set of tasks to its frame table, or to a numbered refusal.
 mod excess;
+mod flow;
 mod search;
 mod sets;
 mod steps;

@@ -6,3 +6,4 @@ pub mod SeekLaws
 pub mod BackLaws
 pub mod ShiftLaws
 pub mod EndLaws
+pub mod FillLaws

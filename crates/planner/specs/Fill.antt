@@ -18,6 +18,17 @@ pub record Given (F m : ℕ) (budgets masks : List ℕ) : Type 0 where
   pub narrow : (i : ℕ) → i < length budgets → at masks i < 2 ^ m
   pub small : (i : ℕ) → i < length budgets → at budgets i ≤ F
 
+-- what fill asks: sizes as tested, and no units yet
+pub record FillReady (F m : ℕ) (budgets masks units : List ℕ) : Type 0 where
+  pub given : Given F m budgets masks
+  pub long : length units ≡ 1024
+  pub empty : (k : ℕ) → at units k ≡ 0
+
+-- the first n budgets are copied
+pub record Copied (budgets left : List ℕ) (n : ℕ) : Type 0 where
+  pub long : length left ≡ 64
+  pub same : (i : ℕ) → i < n → at left i ≡ at budgets i
+
 -- the list with d more, or d less, at the place k
 unfoldable pub raise : List ℕ → ℕ → ℕ → List ℕ
 raise l k d = set l k (getD l k 0 + d)

@@ -4,9 +4,9 @@ ghost use Prim.Native.Nat.{_≤_, _<_};
 ghost use lib.ListN.{length};
 ghost use Rattle.planner.specs.Search.{Sized};
 ghost use Rattle.rules.specs.Plan.{at};
-ghost use Rattle.planner.specs.Fill.{Filling};
+ghost use Rattle.planner.specs.Fill.{Filling, FillReady, Copied};
 ghost use Rattle.planner.specs.Back.{ShiftFits, Shifted, PlaceFits, Placed, Reads, backward, lacking};
-ghost use Rattle.planner.specs.Filled.{PassBy};
+ghost use Rattle.planner.specs.Filled.{FilledBy, PassBy};
 use crate::excess::excess;
 use crate::search::Outcome;
 use crate::search::seek;
@@ -169,6 +169,57 @@ fn advance(
             }
             settle(units, left, room, queue, via, p);
             Pass::More
+        }
+    }
+}
+
+// What lacks at first: all budgets.
+fn copy_budgets(budgets: &[u32], left: &mut [u32; 64])
+    requires { ⌜ (length (now budgets) ≤ 64) × (length (now left) ≡ 64) ⌝ }
+    ensures { λ _. ⌜ Copied (now (budgets .entry)) (now (left .exit)) (length (now (budgets .entry))) ⌝ }
+{
+    let mut i = 0;
+    while i < budgets.len() {
+        left[i] = budgets[i];
+        i += 1;
+    }
+}
+
+// Search after search, until no core with room is found.
+pub(crate) fn fill(
+    frame: u32,
+    cores: usize,
+    budgets: &[u32],
+    masks: &[u16],
+    units: &mut [u32; 1024],
+) -> Filled
+    requires { ⌜ FillReady frame cores (now budgets) (now masks) (now units) ⌝ }
+    ensures { λ r. ⌜ FilledBy frame cores (now (budgets .entry)) (now (masks .entry)) (now (units .exit)) r ⌝ }
+{
+    let mut left = [0u32; 64];
+    copy_budgets(budgets, &mut left);
+    let mut room = [frame; 16];
+    let mut queue = [0usize; 16];
+    let mut via = [0usize; 16];
+    let mut from = [0usize; 64];
+    loop {
+        let pass = advance(
+            frame,
+            cores,
+            budgets,
+            masks,
+            units,
+            &mut left,
+            &mut room,
+            &mut queue,
+            &mut via,
+            &mut from,
+        );
+        match pass {
+            Pass::More => {}
+            Pass::Ended(filled) => {
+                return filled;
+            }
         }
     }
 }

@@ -7,3 +7,4 @@ pub mod BackLaws
 pub mod ShiftLaws
 pub mod EndLaws
 pub mod FillLaws
+pub mod Exists

@@ -15,7 +15,7 @@ use Rattle.rules.specs.Sum.{sumTo, put}
 use Rattle.rules.specs.Sets.{has, union}
 use Rattle.rules.specs.Allocation.{Allocation}
 use Rattle.rules.specs.Excess.{groupBudget, capacity, groupCapacity, Exceeds, Overload}
-use Rattle.sums.proofs.Sum.{put-same, put-other, sum-cong, sum-le, sum-zero, sum-add, sum-term, sum-some}
+use Rattle.sums.proofs.Sum.{put-same, put-other, sum-put, sum-cong, sum-le, sum-zero, sum-add, sum-term, sum-some}
 use Rattle.sums.proofs.Sets.{has-lt, has-zero, has-one, has-none, has-or, has-and, with-same, with-other, with-lt, union-has, union-from}
 use Rattle.planner.proofs.StepLaws.{sum-change}
 use Rattle.planner.proofs.Verdict.{part-in, part-out, allocation-fits-every-group}
@@ -321,3 +321,133 @@ module _ (n m : ℕ) (mask : ℕ → ℕ) where
 
     good-core : (j : ℕ) × Good j
     good-core = ⊎-elim (λ r. r) (λ r. absurd (not-all (r .0) (r .1))) (each-core m (native.Mathlib.Nat.le-refl m))
+
+    -- one unit at (i, j), and the allocation with it
+    unit : ℕ → ℕ → ℕ → ℕ
+    unit j a b = put i (put j 1 (λ k. 0) b) (λ k. 0) a
+
+    unit-row : (j : ℕ) → j < m → sumTo m (unit j i) ≡ 1
+    unfolding unit
+    unit-row j l =
+        sum-cong m (λ b k. put-same i (put j 1 (λ k. 0) b) (λ k. 0))
+        ∙ one (sum-put m j 1 (λ k. 0) l) (sum-zero m (λ k u. refl))
+      where
+        one : {a b : ℕ} → a + 0 ≡ b + 1 → b ≡ 0 → a ≡ 1
+        one e f = omega arith
+
+    unit-row-other : (j a : ℕ) → (a ≡ i → ⊥) → sumTo m (unit j a) ≡ 0
+    unfolding unit
+    unit-row-other j a ne = sum-zero m (λ b k. put-other i (put j 1 (λ k. 0) b) (λ k. 0) a ne)
+
+    unit-column : (j : ℕ) → sumTo n (λ a. unit j a j) ≡ 1
+    unfolding unit
+    unit-column j =
+        one (sum-put n i (put j 1 (λ k. 0) j) (λ k. 0) i-in) (sum-zero n (λ k u. refl)) (put-same j 1 (λ k. 0))
+      where
+        one : {a b v : ℕ} → a + 0 ≡ b + v → b ≡ 0 → v ≡ 1 → a ≡ 1
+        one e f g = omega arith
+
+    unit-column-other : (j b : ℕ) → (b ≡ j → ⊥) → sumTo n (λ a. unit j a b) ≡ 0
+    unfolding unit
+    unit-column-other j b ne =
+        none (sum-put n i (put j 1 (λ k. 0) b) (λ k. 0) i-in) (sum-zero n (λ k u. refl)) (put-other j 1 (λ k. 0) b ne)
+      where
+        none : {a b v : ℕ} → a + 0 ≡ b + v → b ≡ 0 → v ≡ 0 → a ≡ 0
+        none e f g = omega arith
+
+    unit-inside : (j a b : ℕ) → ((a ≡ i) × (b ≡ j) → ⊥) → unit j a b ≡ 0
+    unfolding unit
+    unit-inside j a b ne =
+        elim (ℕ-discrete a i) [
+          | no na ↦ put-other i (put j 1 (λ k. 0) b) (λ k. 0) a na
+          | yes e ↦ rw e (put-same i (put j 1 (λ k. 0) b) (λ k. 0)) ∙ put-other j 1 (λ k. 0) b (λ d. ne (e, d))
+        ]
+
+    with-unit : (j : ℕ) → Good j → (x : ℕ → ℕ → ℕ) → Allocation n m (less-limit j) less-budget mask x → Allocation n m limit budget mask (λ a b. x a b + unit j a b)
+    unfolding less-limit less-budget
+    with-unit j good x al =
+        record {
+          inside = λ a l b k z.
+              both (al .inside a l b k z) (unit-inside j a b (λ p. clash (sym (ap₂ (λ (t c : ℕ). has (mask t) c) (p .0) (p .1)) ∙ z) (good .allowed)));
+          exact = λ a l.
+              sum-add m (x a) (unit j a)
+              ∙ elim (ℕ-discrete a i) [
+                | yes e ↦ rw e (up (al .exact i i-in ∙ put-same i (budget i - 1) budget) (unit-row j (good .core)) some)
+                | no na ↦ same (al .exact a l ∙ put-other i (budget i - 1) budget a na) (unit-row-other j a na)
+              ];
+          within = λ b k.
+              le-trans (le-of-eq (sum-add n (λ a. x a b) (λ a. unit j a b)))
+              (elim (ℕ-discrete b j) [
+                | yes e ↦ rw e (up-le (al .within j (good .core)) (put-same j (limit j - 1) limit) (unit-column j) (good .room))
+                | no nb ↦ same-le (al .within b k) (put-other j (limit j - 1) limit b nb) (unit-column-other j b nb)
+              ]);
+        }
+      where
+        both : {p q : ℕ} → p ≡ 0 → q ≡ 0 → p + q ≡ 0
+        both e f = omega arith
+
+        clash : {p : ℕ} → p ≡ 0 → p ≡ 1 → ⊥
+        clash e f = omega arith
+
+        up : {p q v : ℕ} → p ≡ v - 1 → q ≡ 1 → 0 < v → p + q ≡ v
+        up e f h = omega arith
+
+        same : {p q v : ℕ} → p ≡ v → q ≡ 0 → p + q ≡ v
+        same e f = omega arith
+
+        up-le : {p q w v : ℕ} → p ≤ w → w ≡ v - 1 → q ≡ 1 → 0 < v → p + q ≤ v
+        up-le e f g h = omega arith
+
+        same-le : {p q w v : ℕ} → p ≤ w → w ≡ v → q ≡ 0 → p + q ≤ v
+        same-le e f g = omega arith
+
+    fewer : sumTo n less-budget + 1 ≡ sumTo n budget
+    unfolding less-budget
+    fewer = omega (arith, sum-put n i (budget i - 1) budget i-in)
+
+  -- no group exceeds, so an allocation exists: by the number of units
+  exists : (s : ℕ) (limit budget : ℕ → ℕ) → sumTo n budget ≡ s → Fits limit budget → (x : ℕ → ℕ → ℕ) × Allocation n m limit budget mask x
+  exists zero limit budget e fits = (
+    λ a b. 0,
+    record {
+      inside = λ a l b k z. refl;
+      exact = λ a l. sum-zero m (λ b k. refl) ∙ sym (nothing (sum-term n a budget l));
+      within = λ b k. none (sum-zero n (λ a l. refl));
+    },
+  )
+    where
+      nothing : {v : ℕ} → v ≤ sumTo n budget → v ≡ 0
+      nothing l = omega arith
+
+      none : {a v : ℕ} → a ≡ 0 → a ≤ v
+      none e = omega arith
+  exists (suc s) limit budget e fits =
+      let t = sum-some n budget (omega arith) in
+      let g = good-core limit budget fits (t .0) (t .1) (t .2) in
+      let r = exists s (less-limit limit budget fits (t .0) (t .1) (t .2) (g .0)) (less-budget limit budget fits (t .0) (t .1) (t .2)) (omega (arith, fewer limit budget fits (t .0) (t .1) (t .2))) (g .1 .still) in
+      (λ a b. r .0 a b + unit limit budget fits (t .0) (t .1) (t .2) (g .0) a b, with-unit limit budget fits (t .0) (t .1) (t .2) (g .0) (g .1) (r .0) (r .1))
+
+module _ {n m : ℕ} {limit budget mask : ℕ → ℕ} where
+  -- one of the two exists
+  pub allocation-or-overload : ((x : ℕ → ℕ → ℕ) × Allocation n m limit budget mask x) ⊎ Overload n m limit budget mask
+  unfolding Exceeds Fits need space
+  allocation-or-overload =
+      ⊎-elim (λ f. inl (exists n m mask (sumTo n budget) limit budget refl f)) (λ r. inr r)
+      (find-first (λ g. groupBudget n budget g ≤ groupCapacity n m limit budget mask g)
+      (λ g. groupCapacity n m limit budget mask g < groupBudget n budget g)
+      (λ g. elim (decLe (groupBudget n budget g) (groupCapacity n m limit budget mask g)) [ yes f ↦ inl f | no f ↦ inr (turn f) ])
+      (2 ^ n))
+    where
+      turn : {a b : ℕ} → (a ≤ b → ⊥) → b < a
+      turn f = omega arith
+
+  -- "Overload stands exactly when no allocation exists"
+  pub overloaded-exactly-without-allocation : (Overload n m limit budget mask → (x : ℕ → ℕ → ℕ) → Allocation n m limit budget mask x → ⊥)
+      × (((x : ℕ → ℕ → ℕ) → Allocation n m limit budget mask x → ⊥) → Overload n m limit budget mask)
+  overloaded-exactly-without-allocation =
+      (λ o x a. allocation-fits-every-group a (o .0) (o .2), λ none. ⊎-elim (λ r. absurd (none (r .0) (r .1))) (λ o. o) allocation-or-overload)
+
+  pub allocation-exactly-without-overload : (((x : ℕ → ℕ → ℕ) × Allocation n m limit budget mask x) → Overload n m limit budget mask → ⊥)
+      × ((Overload n m limit budget mask → ⊥) → (x : ℕ → ℕ → ℕ) × Allocation n m limit budget mask x)
+  allocation-exactly-without-overload =
+      (λ r o. allocation-fits-every-group (r .1) (o .0) (o .2), λ none. ⊎-elim (λ r. r) (λ o. absurd (none o)) allocation-or-overload)

@@ -14,3 +14,12 @@ pub mod WayLaws
 pub mod CycleLaws
 pub mod UnloopLaws
 pub mod Apart
+pub mod GroupSum
+pub mod StepLaws
+pub mod SearchLaws
+pub mod SeekLaws
+pub mod BackLaws
+pub mod ShiftLaws
+pub mod EndLaws
+pub mod FillLaws
+pub mod Exists

@@ -4,3 +4,7 @@ pub mod Stripping
 pub mod Ring
 pub mod Path
 pub mod Verdict
+pub mod Fill
+pub mod Search
+pub mod Filled
+pub mod Back

@@ -14,11 +14,11 @@ use Rattle.rules.specs.Sum.{firstAt}
 use Rattle.rules.specs.Tests.{badMask, badBudget}
 
 module _ (p : ℕ → Bool) where
-  first-cons-hit : (a : ℕ) (l : List ℕ) → p a ≡ true → firstAt p (a ∷ l) ≡ 0
+  pub first-cons-hit : (a : ℕ) (l : List ℕ) → p a ≡ true → firstAt p (a ∷ l) ≡ 0
   unfolding firstAt
   first-cons-hit a l e = rw (e, firstAt)
 
-  first-cons-miss : (a : ℕ) (l : List ℕ) → p a ≡ false → firstAt p (a ∷ l) ≡ suc (firstAt p l)
+  pub first-cons-miss : (a : ℕ) (l : List ℕ) → p a ≡ false → firstAt p (a ∷ l) ≡ suc (firstAt p l)
   unfolding firstAt
   first-cons-miss a l e = rw (e, firstAt)
 

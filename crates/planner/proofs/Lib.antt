@@ -1,6 +1,7 @@
 pub mod Verdict
 pub mod FirstLaws
 pub mod TestLaws
+pub mod PassedLaws
 pub mod Forest
 pub mod Strip
 pub mod Links

@@ -8,3 +8,4 @@ pub mod Fill
 pub mod Search
 pub mod Filled
 pub mod Back
+pub mod Plan

@@ -214,7 +214,7 @@ module _ (n m : ℕ) (x : ℕ → ℕ → ℕ) (g h : ℕ) (fast : Fast n m x g 
   fast-has-cycle t l z = walk (suc m) (λ i. t) (λ i. 0) 0 (way-begins n m x g h (λ i. t) (λ i. 0) t l z refl) (omega arith)
 
 -- one vertex after another goes while one is loose
-module _ (n m : ℕ) (x : ℕ → ℕ → ℕ) (free : LoopFree n m x) where
+module _ (n m : ℕ) (x : ℕ → ℕ → ℕ) where
   abbrev LooseAt : ℕ → (ℕ → ℕ) → ℕ → Type 0
   LooseAt gone count i = (has gone i ≡ 0) × (count i ≤ 1)
 
@@ -231,12 +231,12 @@ module _ (n m : ℕ) (x : ℕ → ℕ → ℕ) (free : LoopFree n m x) where
       above : {a : ℕ} → (a ≤ 1 → ⊥) → 2 ≤ a
       above np = omega arith
 
-  -- nothing is loose: then all is gone
-  settled : (g h : ℕ) → Stripping n m x g h → Fast n m x g h → Peeled n m x
+  -- nothing is loose: then all is gone, or a way from what is left meets itself
+  settled : (g h : ℕ) → Stripping n m x g h → Fast n m x g h → Peeled n m x ⊎ Cycle n m x
   settled g h s f =
       ⊎-elim
-      (λ r. absurd (free (fast-has-cycle n m x g h f (r .0) (r .1) (r .2))))
-      (λ none. all-gone n m x g h n s f (record { within = omega arith; still = λ l. absurd (self l); before = λ i l. one (has-lt g i) (none i l) }) (omega arith))
+      (λ r. inr (fast-has-cycle n m x g h f (r .0) (r .1) (r .2)))
+      (λ none. inl (all-gone n m x g h n s f (record { within = omega arith; still = λ l. absurd (self l); before = λ i l. one (has-lt g i) (none i l) }) (omega arith)))
       (seek n (λ i. has g i ≡ 0) (λ i. ℕ-discrete (has g i) 0))
     where
       self : {a : ℕ} → a < a → ⊥
@@ -245,7 +245,7 @@ module _ (n m : ℕ) (x : ℕ → ℕ → ℕ) (free : LoopFree n m x) where
       one : {v : ℕ} → v < 2 → (v ≡ 0 → ⊥) → v ≡ 1
       one p q = omega arith
 
-  apart : (fuel g h : ℕ) → Stripping n m x g h → sumTo n (there g) + sumTo m (there h) < fuel → Peeled n m x
+  apart : (fuel g h : ℕ) → Stripping n m x g h → sumTo n (there g) + sumTo m (there h) < fuel → Peeled n m x ⊎ Cycle n m x
   apart zero g h s l = absurd (none l)
     where
       none : {a : ℕ} → a < 0 → ⊥
@@ -260,5 +260,8 @@ module _ (n m : ℕ) (x : ℕ → ℕ → ℕ) (free : LoopFree n m x) where
       (seek m (LooseAt h (links n g (λ j i. x i j))) (loose-dec h (links n g (λ j i. x i j)))))
       (seek n (LooseAt g (links m h x)) (loose-dec g (links m h x)))
 
-  pub loop-free-comes-apart : Peeled n m x
-  loop-free-comes-apart = apart (suc (sumTo n (there 0) + sumTo m (there 0))) 0 0 (strip-none n m x) (omega arith)
+  pub apart-or-cycle : Peeled n m x ⊎ Cycle n m x
+  apart-or-cycle = apart (suc (sumTo n (there 0) + sumTo m (there 0))) 0 0 (strip-none n m x) (omega arith)
+
+  pub loop-free-comes-apart : LoopFree n m x → Peeled n m x
+  loop-free-comes-apart free = ⊎-elim (λ p. p) (λ c. absurd (free c)) apart-or-cycle

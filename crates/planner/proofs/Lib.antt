@@ -15,6 +15,7 @@ pub mod WayLaws
 pub mod CycleLaws
 pub mod UnloopLaws
 pub mod Apart
+pub mod Unlooped
 pub mod GroupSum
 pub mod StepLaws
 pub mod SearchLaws

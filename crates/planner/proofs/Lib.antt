@@ -8,3 +8,15 @@ pub mod ShiftLaws
 pub mod EndLaws
 pub mod FillLaws
 pub mod Exists
+pub mod Forest
+pub mod Strip
+pub mod Links
+pub mod Loose
+pub mod Shifting
+pub mod Stores
+pub mod RingLaws
+pub mod Pigeon
+pub mod Ways
+pub mod WayLaws
+pub mod CycleLaws
+pub mod UnloopLaws

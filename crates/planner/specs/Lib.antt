@@ -4,3 +4,6 @@ pub mod Fill
 pub mod Search
 pub mod Filled
 pub mod Back
+pub mod Stripping
+pub mod Ring
+pub mod Path

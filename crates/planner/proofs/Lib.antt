@@ -1,1 +1,4 @@
 pub mod Forest
+pub mod Reaching
+pub mod Growing
+pub mod LaidOut

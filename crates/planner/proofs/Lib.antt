@@ -2,3 +2,8 @@ pub mod Forest
 pub mod Reaching
 pub mod Growing
 pub mod LaidOut
+pub mod Ahead
+pub mod PieceLists
+pub mod Parts
+pub mod Counts
+pub mod FrameTables

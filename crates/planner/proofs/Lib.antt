@@ -7,3 +7,6 @@ pub mod PieceLists
 pub mod Parts
 pub mod Counts
 pub mod FrameTables
+pub mod Numbers
+pub mod Cells
+pub mod Budgets

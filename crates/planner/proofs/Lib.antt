@@ -10,3 +10,5 @@ pub mod FrameTables
 pub mod Numbers
 pub mod Cells
 pub mod Budgets
+pub mod SumLoops
+pub mod AheadCode

@@ -1,1 +1,3 @@
 // The planner: from a set of tasks to its frame table, or to a numbered refusal.
+
+mod before;

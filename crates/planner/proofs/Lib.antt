@@ -12,3 +12,5 @@ pub mod Cells
 pub mod Budgets
 pub mod SumLoops
 pub mod AheadCode
+pub mod Verdict
+pub mod GroupSum

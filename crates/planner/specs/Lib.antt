@@ -1,3 +1,4 @@
 pub mod Certificate
 pub mod Ready
 pub mod Small
+pub mod Flow

@@ -1,3 +1,5 @@
 // The planner: from a set of tasks to its frame table, or to a numbered refusal.
 
 mod before;
+mod excess;
+mod sets;

@@ -14,3 +14,4 @@ pub mod SumLoops
 pub mod AheadCode
 pub mod Verdict
 pub mod GroupSum
+pub mod WalkLaws

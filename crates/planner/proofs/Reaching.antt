@@ -38,11 +38,11 @@ pub zero-of : {a : ℕ} → (0 < a → ⊥) → a ≡ 0
 zero-of s = omega arith
 
 module _ (n m : ℕ) (x : ℕ → ℕ → ℕ) (t j s : ℕ) where
-  one-none : (k : ℕ) (w : Walk) → x t k ≡ 0 → reachOne n m x t j s k w ≡ w
+  pub one-none : (k : ℕ) (w : Walk) → x t k ≡ 0 → reachOne n m x t j s k w ≡ w
   unfolding reachOne
   one-none k w e = rw (e, reachOne)
 
-  one-here : (k : ℕ) (w : Walk) → k ≡ j → reachOne n m x t j s k w ≡ w
+  pub one-here : (k : ℕ) (w : Walk) → k ≡ j → reachOne n m x t j s k w ≡ w
   unfolding reachOne
   one-here k w e =
       elim (decLt 0 (x t k)) [
@@ -50,7 +50,7 @@ module _ (n m : ℕ) (x : ℕ → ℕ → ℕ) (t j s : ℕ) where
         | no z ↦ rw (zero-of z, reachOne)
       ]
 
-  abbrev moved : ℕ → Walk → Walk
+  abbrev pub moved : ℕ → Walk → Walk
   moved k w =
       record {
         visited = w .visited;
@@ -60,7 +60,7 @@ module _ (n m : ℕ) (x : ℕ → ℕ → ℕ) (t j s : ℕ) where
         first = put k (suc t) (w .first);
       }
 
-  one-moved : (k : ℕ) (w : Walk) → 0 < x t k → (k ≡ j → ⊥) → reachOne n m x t j s k w ≡ moved k w
+  pub one-moved : (k : ℕ) (w : Walk) → 0 < x t k → (k ≡ j → ⊥) → reachOne n m x t j s k w ≡ moved k w
   unfolding reachOne
   one-moved k w h ne = let b = pred-of (x t k) h in rw (b .1, reachOne, ne-eqb k j ne, reachOne)
 

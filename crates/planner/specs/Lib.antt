@@ -2,3 +2,4 @@ pub mod Certificate
 pub mod Ready
 pub mod Small
 pub mod Flow
+pub mod Walking

@@ -3,3 +3,4 @@
 mod before;
 mod excess;
 mod sets;
+mod walking;

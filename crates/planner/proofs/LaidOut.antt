@@ -15,7 +15,7 @@ use Rattle.rules.specs.Layout.{Walk, ahead, begun, stretch, reach, meetMark, me
 use Rattle.sums.proofs.Sum.{put-same, put-other, sum-cong, sum-le, sum-zero, sum-put, sum-term, sum-count, sum-tight, sum-const}
 use Rattle.planner.specs.Certificate.{Peeled}
 use Rattle.planner.proofs.Forest.{edges, left-pos, right-pos}
-use Rattle.planner.proofs.Reaching.{SameAt, same-refl, same-trans, pred-of, zero-of}
+use Rattle.planner.proofs.Reaching.{SameAt, same-refl, same-trans, pred-of, zero-of, meet-none, meet-old, meet-fresh}
 use Rattle.planner.proofs.Growing.{Laid, Kept, kept-trans, Growing, newTasks, newCores, laid-kept, after, after-visited, after-kept, after-met-more, after-met-here, after-growing}
 
 -- the lowest number where f is not 0: f is not 0 there, and without one f is 0 everywhere
@@ -78,12 +78,12 @@ module _ (n m : ℕ) (x : ℕ → ℕ → ℕ) where
     unfolding meetOne
     meet-one w g here t tn =
         elim (decLt 0 (x t j)) [
-          | no z ↦ rw (none (zero-of z)) (met-none g, λ h. absurd (z h))
+          | no z ↦ rw (meet-none n m x j t w (zero-of z)) (met-none g, λ h. absurd (z h))
           | yes h ↦
               elim (decLt 0 (w .met t)) [
-                | yes s ↦ rw (old h s) (met-none g, λ h. s)
+                | yes s ↦ rw (meet-old n m x j t w s) (met-none g, λ h. s)
                 | no z ↦
-                    rw (fresh h (zero-of z)) (
+                    rw (meet-fresh n m x j t w h (zero-of z)) (
                       record {
                         growing = after-growing n m x p w₀ w g j jm here new t tn h (zero-of z);
                         kept = after-kept n m x p w₀ w g j jm here new t tn h (zero-of z);
@@ -94,15 +94,6 @@ module _ (n m : ℕ) (x : ℕ → ℕ → ℕ) where
                     )
               ]
         ]
-      where
-        none : x t j ≡ 0 → meetOne n m x j t w ≡ w
-        none e = rw (e, meetOne)
-
-        old : 0 < x t j → 0 < w .met t → meetOne n m x j t w ≡ w
-        old h s = let a = pred-of (x t j) h in let b = pred-of (w .met t) s in rw (a .1, meetOne, b .1, meetOne)
-
-        fresh : 0 < x t j → w .met t ≡ 0 → meetOne n m x j t w ≡ reach n m x t j (stretch n m x w t j) m (meetMark n m x t w)
-        fresh h e = let a = pred-of (x t j) h in rw (a .1, meetOne, e, meetOne)
 
     meet-to : (c : ℕ) (w : Walk) → Growing n m x w₀ w → 0 < w .reached j → c ≤ n
         → Met w₀ w (meet n m x j c w) × ((t : ℕ) → t < c → 0 < x t j → 0 < meet n m x j c w .met t)

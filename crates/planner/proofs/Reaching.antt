@@ -132,3 +132,20 @@ module _ (n m : ℕ) (x : ℕ → ℕ → ℕ) (t j s : ℕ) where
 
       at-last : (c : ℕ) → c ≡ k → (0 < x t k → (k ≡ j → ⊥) → ⊥) → SameAt (reachOne n m x t j s c (reach n m x t j s c w)) (reach n m x t j s c w) k
       at-last c e q = rw e (rw (stays (reach n m x t j s k w) q) (same-refl (reach n m x t j s k w) k))
+
+module _ (n m : ℕ) (x : ℕ → ℕ → ℕ) (j t : ℕ) (w : Walk) where
+  pub meet-none : x t j ≡ 0 → meetOne n m x j t w ≡ w
+  unfolding meetOne
+  meet-none e = rw (e, meetOne)
+
+  pub meet-old : 0 < w .met t → meetOne n m x j t w ≡ w
+  unfolding meetOne
+  meet-old s =
+      elim (decLt 0 (x t j)) [
+        | no z ↦ rw (zero-of z, meetOne)
+        | yes h ↦ let a = pred-of (x t j) h in let b = pred-of (w .met t) s in rw (a .1, meetOne, b .1, meetOne)
+      ]
+
+  pub meet-fresh : 0 < x t j → w .met t ≡ 0 → meetOne n m x j t w ≡ reach n m x t j (stretch n m x w t j) m (meetMark n m x t w)
+  unfolding meetOne
+  meet-fresh h e = let a = pred-of (x t j) h in rw (a .1, meetOne, e, meetOne)

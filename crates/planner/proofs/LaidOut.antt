@@ -130,7 +130,7 @@ module _ (n m : ℕ) (x : ℕ → ℕ → ℕ) where
       none : {b : Bool} → b ≡ false → 0 < cond b 1 0 → ⊥
       none e h = not-suc-le-zero (rw e at h)
 
-  next-core : (c : ℕ) (w : Walk) → State c w → c < m → Next w (nextCore n m x w)
+  pub next-core : (c : ℕ) (w : Walk) → State c w → c < m → Next w (nextCore n m x w)
   unfolding nextCore waiting unvisited
   next-core c w s l =
       elim (decLt (lowest m (waiting n m x w)) m) [
@@ -320,7 +320,7 @@ module _ (n m : ℕ) (x : ℕ → ℕ → ℕ) where
           seen = λ t tn k km h r. absurd (not-suc-le-zero r);
         }
 
-    visits-state : (c : ℕ) → c ≤ m → State c (visits n m x c)
+    pub visits-state : (c : ℕ) → c ≤ m → State c (visits n m x c)
     unfolding visits
     visits-state zero l = begin
     visits-state (suc c) l = visit-next c (visits n m x c) (visits-state c (omega arith)) l

@@ -15,3 +15,4 @@ pub mod AheadCode
 pub mod Verdict
 pub mod GroupSum
 pub mod WalkLaws
+pub mod Bounds

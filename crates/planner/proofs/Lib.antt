@@ -16,3 +16,4 @@ pub mod Verdict
 pub mod GroupSum
 pub mod WalkLaws
 pub mod Bounds
+pub mod GapLaws

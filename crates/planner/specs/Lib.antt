@@ -3,3 +3,4 @@ pub mod Ready
 pub mod Small
 pub mod Flow
 pub mod Walking
+pub mod Pieces

@@ -2,5 +2,6 @@
 
 mod before;
 mod excess;
+mod pieces;
 mod sets;
 mod walking;

@@ -17,3 +17,4 @@ pub mod GroupSum
 pub mod WalkLaws
 pub mod Bounds
 pub mod GapLaws
+pub mod InsertLaws

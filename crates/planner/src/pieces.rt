@@ -44,3 +44,56 @@ fn write_piece(table: &mut [u32], i: usize, core: u32, task: u32, start: u32, le
     table[i + 2] = start;
     table[i + 3] = len;
 }
+
+// A piece is put in by its start among the pieces of its core, which are those from `from` up to `count`.
+fn insert_piece(
+    table: &mut [u32],
+    from: usize,
+    count: usize,
+    core: u32,
+    task: u32,
+    start: u32,
+    len: u32,
+)
+    requires { ⌜ (from ≤ count) × (count < 999) × (4 * count + 4 ≤ length (now table)) ⌝ }
+    ensures { λ _. ⌜
+        Inserts from count (record { core = core; task = task; start = start; len = len } ∷ []) (now (table .entry)) (now (table .exit))
+        ⌝ }
+{
+    let at = place_of(table, from, count, start);
+    open_gap(table, 4 * at, 4 * count);
+    write_piece(table, 4 * at, core, task, start, len);
+}
+
+// "A stretch that crosses the end becomes two pieces": the pieces of a stretch are put in. The number of pieces then.
+pub(crate) fn add_stretch(
+    table: &mut [u32],
+    from: usize,
+    count: usize,
+    frame: u32,
+    core: u32,
+    task: u32,
+    start: u32,
+    len: u32,
+) -> usize
+    requires { ⌜
+        (from ≤ count) ×
+        (count < 998) ×
+        (start < frame) ×
+        (frame ≤ 1000000) ×
+        (len ≤ frame) ×
+        (4 * (count + length (cut frame core task start len)) ≤ length (now table))
+        ⌝ }
+    ensures { λ r. ⌜
+        (r ≡ count + length (cut frame core task start len)) ×
+        Inserts from count (cut frame core task start len) (now (table .entry)) (now (table .exit))
+        ⌝ }
+{
+    if start + len <= frame {
+        insert_piece(table, from, count, core, task, start, len);
+        return count + 1;
+    }
+    insert_piece(table, from, count, core, task, start, frame - start);
+    insert_piece(table, from, count + 1, core, task, 0, start + len - frame);
+    count + 2
+}

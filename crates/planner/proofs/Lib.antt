@@ -18,3 +18,4 @@ pub mod WalkLaws
 pub mod Bounds
 pub mod GapLaws
 pub mod InsertLaws
+pub mod LayLaws

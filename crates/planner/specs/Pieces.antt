@@ -7,8 +7,10 @@ use Prim.Native.Nat.{ℕ, _+_, _*_, _≤_, _<_}
 use lib.ListN.{length, getD, take, drop}
 use lib.Seq.{slice}
 use Rattle.rules.specs.Piece.{Piece, numbersOf}
-use Rattle.rules.specs.Table.{insertAll}
+use Rattle.rules.specs.Sum.{sumTo}
+use Rattle.rules.specs.Table.{insertAll, piecesOn, coreTo}
 use Rattle.rules.specs.Layout.{Walk}
+use Rattle.planner.specs.Certificate.{cell}
 
 -- the place r of a piece that starts at `start` among the pieces from `from` up to `count`
 pub record Placed (l : List ℕ) (from count start r : ℕ) : Type 0 where
@@ -31,3 +33,25 @@ Inserts from count ps before after =
 abbrev pub alone : ℕ → ℕ → Walk
 alone start first =
     record { visited = λ j. 0; reached = λ j. 0; met = λ t. 0; start = λ j. start; first = λ j. first }
+
+-- the pieces of a task, and of the tasks below c, on core j that starts at `start` and has the task `first` - 1 in front
+abbrev pub taskPieces : ℕ → ℕ → List ℕ → ℕ → ℕ → ℕ → ℕ → List Piece
+taskPieces F n units start first j t = piecesOn F n n (cell units) (alone start first) j t
+
+abbrev pub corePieces : ℕ → ℕ → List ℕ → ℕ → ℕ → ℕ → ℕ → List Piece
+corePieces F n units start first j c = coreTo F n n (cell units) (alone start first) j c
+
+-- the pieces ps follow the first `from` pieces; what lay behind these is written over
+abbrev pub Appends : ℕ → List Piece → List ℕ → List ℕ → Type 0
+Appends from ps before after =
+    (a : List Piece) (rest : List ℕ) → length a ≡ from → before ≡ numbersOf a ++ rest → after ≡ numbersOf a ++ (numbersOf ps ++ drop (4 * length ps) rest)
+
+-- before the pieces of a core are laid
+pub record OnCore (F n : ℕ) (units : List ℕ) (core start first : ℕ) : Type 0 where
+  pub frame-some : 1 ≤ F
+  pub frame-most : F ≤ 1000000
+  pub tasks : n ≤ 64
+  pub core-few : core < 16
+  pub start-few : start ≤ 2048000000
+  pub first-few : first ≤ n
+  pub column : sumTo n (λ i. cell units i core) ≤ F

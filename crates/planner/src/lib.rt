@@ -2,6 +2,7 @@
 
 mod before;
 mod excess;
+mod frame;
 mod pieces;
 mod sets;
 mod walking;

@@ -1,3 +1,17 @@
+pub mod Forest
+pub mod Reaching
+pub mod Growing
+pub mod LaidOut
+pub mod Ahead
+pub mod PieceLists
+pub mod Parts
+pub mod Counts
+pub mod FrameTables
+pub mod Numbers
+pub mod Cells
+pub mod Budgets
+pub mod SumLoops
+pub mod AheadCode
 pub mod Verdict
 pub mod FirstLaws
 pub mod TestLaws
@@ -11,7 +25,6 @@ pub mod ShiftLaws
 pub mod EndLaws
 pub mod FillLaws
 pub mod Exists
-pub mod Forest
 pub mod Strip
 pub mod Links
 pub mod Loose
@@ -25,3 +38,8 @@ pub mod CycleLaws
 pub mod UnloopLaws
 pub mod Apart
 pub mod Unlooped
+pub mod WalkLaws
+pub mod Bounds
+pub mod GapLaws
+pub mod InsertLaws
+pub mod LayLaws

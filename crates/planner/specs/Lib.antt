@@ -1,4 +1,6 @@
 pub mod Certificate
+pub mod Ready
+pub mod Small
 pub mod Flow
 pub mod Stripping
 pub mod Ring
@@ -9,3 +11,5 @@ pub mod Search
 pub mod Filled
 pub mod Back
 pub mod Plan
+pub mod Walking
+pub mod Pieces

@@ -9,3 +9,8 @@ mod sets;
 mod shift;
 mod steps;
 mod unloop;
+
+mod before;
+mod frame;
+mod pieces;
+mod walking;

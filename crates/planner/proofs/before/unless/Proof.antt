@@ -1,0 +1,17 @@
+-- `before::unless` meets its contract.
+-- Assumes nothing.
+use borrow.Author.Needs.{needs}
+use Rattle.planner.proofs.SumLoops.{unless-here, unless-other}
+use Rattle.planner.proofs.before.unless.Statement.{statement}
+use Rattle.planner.proofs.before.unless.Tie as tie
+use Rattle.planner.proofs.before.unless.Reads as reads
+use Rattle.planner.proofs.before.unless.Lts as lts
+
+returns : tie.Need-returns
+returns c = search (unless-here, needs)
+
+returns-2 : tie.Need-returns-2
+returns-2 c = search (unless-other, needs)
+
+pub unless-spec : {M : Type 1} → statement M
+unless-spec = tie.close (tie.spec returns returns-2)

@@ -1,0 +1,52 @@
+// From a loop-free allocation to the table: document 01, "From allocation to table". The walk gives where each core starts, and the pieces
+// of one core after the other are put into the lent table.
+ghost use mathlib.Core.Path.{_≡_};
+ghost use mathlib.Core.List.{_++_};
+ghost use Prim.Native.Nat.{_+_, _*_, _/_, _≤_, _<_};
+ghost use lib.ListN.{length, drop};
+ghost use Rattle.planner.specs.Pieces.{taskPieces, corePieces, Inserts, Appends, OnCore};
+use crate::before::ahead_on_core;
+use crate::pieces::add_stretch;
+use crate::walking::walk;
+
+// The pieces of a task on a core that starts at `at`, with task `first` - 1 in front, are put in among those from `from` up to `count`.
+fn lay_task(
+    table: &mut [u32],
+    units: &[u32; 1024],
+    frame: u32,
+    tasks: usize,
+    core: usize,
+    at: u32,
+    first: usize,
+    from: usize,
+    count: usize,
+    task: usize,
+) -> usize
+    requires { ⌜
+        OnCore frame tasks (now units) core at first ×
+        (task < tasks) ×
+        (from ≤ count) ×
+        (count < 900) ×
+        (4 * (count + length (taskPieces frame tasks (now units) at first core task)) ≤ length (now table))
+        ⌝ }
+    ensures { λ r. ⌜
+        (r ≡ count + length (taskPieces frame tasks (now (units .entry)) at first core task)) ×
+        Inserts from count (taskPieces frame tasks (now (units .entry)) at first core task) (now (table .entry)) (now (table .exit))
+        ⌝ }
+{
+    let len = units[task * 16 + core];
+    if len == 0 {
+        return count;
+    }
+    let start = (at + ahead_on_core(units, tasks, core, first, task)) % frame;
+    add_stretch(
+        table,
+        from,
+        count,
+        frame,
+        core as u32,
+        task as u32,
+        start,
+        len,
+    )
+}

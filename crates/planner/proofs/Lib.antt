@@ -44,3 +44,4 @@ pub mod GapLaws
 pub mod InsertLaws
 pub mod LayLaws
 pub mod NoTable
+pub mod Collected

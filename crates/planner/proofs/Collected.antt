@@ -48,9 +48,9 @@ has-collect : (n : ℕ) (f : ℕ → ℕ) → ((i : ℕ) → f i ≤ 1) → (i :
 unfolding collect Chosen
 has-collect zero f small i l = absurd (not-suc-le-zero l)
 has-collect (suc n) f small i l =
-    elim (ℕ-discrete i n)
-    [ yes e ↦ subst (λ (k : ℕ). has (Chosen n (f n) f) k ≡ f k) (sym e) (chosen-last n (f n) f (small n))
-    | no ne ↦ chosen-before n (f n) f i ne ∙ has-collect n f small i (omega arith)
+    elim (ℕ-discrete i n) [
+      | yes e ↦ subst (λ (k : ℕ). has (Chosen n (f n) f) k ≡ f k) (sym e) (chosen-last n (f n) f (small n))
+      | no ne ↦ chosen-before n (f n) f i ne ∙ has-collect n f small i (omega arith)
     ]
 
 -- the group carried by 7 "holds no zero-budget task": without it the excess would be as great
@@ -61,9 +61,9 @@ module _ (n m : ℕ) (limit budget mask : ℕ → ℕ) (g : ℕ) (s : Smallest n
   without-small : (k : ℕ) → without k ≤ 1
   unfolding without
   without-small k =
-      elim (ℕ-discrete k i)
-      [ yes e ↦ subst (λ (v : ℕ). v ≤ 1) (sym (ap (put i 0 (has g)) e ∙ put-same i 0 (has g))) (omega arith)
-      | no ne ↦ subst (λ (v : ℕ). v ≤ 1) (sym (put-other i 0 (has g) k ne)) (has-le-one g k)
+      elim (ℕ-discrete k i) [
+        | yes e ↦ subst (λ (v : ℕ). v ≤ 1) (sym (ap (put i 0 (has g)) e ∙ put-same i 0 (has g))) (omega arith)
+        | no ne ↦ subst (λ (v : ℕ). v ≤ 1) (sym (put-other i 0 (has g) k ne)) (has-le-one g k)
       ]
 
   less : ℕ
@@ -82,19 +82,19 @@ module _ (n m : ℕ) (limit budget mask : ℕ → ℕ) (g : ℕ) (s : Smallest n
   same-budget =
       sum-cong n
       (λ k b.
-        elim (ℕ-discrete k i)
-        [ yes e ↦ ap (λ (j : ℕ). has less j * budget j) e ∙ ap (λ (v : ℕ). has less i * v) none ∙ zeros (has less i) (has g i) ∙ sym (ap (λ (v : ℕ). has g i * v) none) ∙ sym (ap (λ (j : ℕ). has g j * budget j) e)
+      elim (ℕ-discrete k i) [
+        | yes e ↦ ap (λ (j : ℕ). has less j * budget j) e ∙ ap (λ (v : ℕ). has less i * v) none ∙ zeros (has less i) (has g i) ∙ sym (ap (λ (v : ℕ). has g i * v) none) ∙ sym (ap (λ (j : ℕ). has g j * budget j) e)
         | no ne ↦ ap (λ (v : ℕ). v * budget k) (less-other k b ne)
-        ])
+      ])
     where
       zeros : (a b : ℕ) → a * 0 ≡ b * 0
       zeros a b = omega arith
 
   held : (k : ℕ) → k < n → has less k ≡ 1 → has g k ≡ 1
   held k b e =
-      elim (ℕ-discrete k i)
-      [ yes f ↦ absurd (wrong (ap (has less) (sym f) ∙ e))
-      | no ne ↦ sym (less-other k b ne) ∙ e
+      elim (ℕ-discrete k i) [
+        | yes f ↦ absurd (wrong (ap (has less) (sym f) ∙ e))
+        | no ne ↦ sym (less-other k b ne) ∙ e
       ]
     where
       wrong : has less i ≡ 1 → ⊥
@@ -102,9 +102,9 @@ module _ (n m : ℕ) (limit budget mask : ℕ → ℕ) (g : ℕ) (s : Smallest n
 
   fewer-cores : (j : ℕ) → has (union n mask less) j ≤ has (union n mask g) j
   fewer-cores j =
-      elim (ℕ-discrete (has (union n mask less) j) 1)
-      [ yes e ↦ let u = union-from n mask less j e in omega (arith, e, union-has n mask g (u .0) j (u .1) (held (u .0) (u .1) (u .2)) (u .3))
-      | no ne ↦ omega (arith, has-lt (union n mask less) j)
+      elim (ℕ-discrete (has (union n mask less) j) 1) [
+        | yes e ↦ let u = union-from n mask less j e in omega (arith, e, union-has n mask g (u .0) j (u .1) (held (u .0) (u .1) (u .2)) (u .3))
+        | no ne ↦ omega (arith, has-lt (union n mask less) j)
       ]
 
   less-capacity : groupCapacity n m limit budget mask less ≤ groupCapacity n m limit budget mask g

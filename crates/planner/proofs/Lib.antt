@@ -45,3 +45,4 @@ pub mod InsertLaws
 pub mod LayLaws
 pub mod NoTable
 pub mod Collected
+pub mod Promised

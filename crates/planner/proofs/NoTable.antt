@@ -26,7 +26,7 @@ both-left : (a b : Bool) → (a && b) ≡ true → a ≡ true
 both-left true b e = refl
 both-left false b e = e
 
-both-right : (a b : Bool) → (a && b) ≡ true → b ≡ true
+pub both-right : (a b : Bool) → (a && b) ≡ true → b ≡ true
 both-right true b e = e
 both-right false b e = absurd (false≢true e)
 

@@ -1,21 +1,20 @@
 -- Where fill begins: nothing is placed, all budgets lack, all cores have room.
 -- Assumes nothing.
-use mathlib.Core.Path.{_≡_, refl, sym, _∙_, ap, ap₂}
+use mathlib.Core.Path.{_≡_, refl, _∙_, ap}
 use mathlib.Core.List.{List}
 use Prim.Native.Nat.{ℕ, zero, suc, min, _+_, _*_, _≤_, _<_}
 use native.Mathlib.Nat.{not-suc-le-zero, le-refl, min-le-left, min-le-right}
 use native.Mathlib.Decide.{ℕ-discrete}
 use native.Mathlib.Omega.{arith}
-use lib.ListN.{length, getD, set, replicate, length-set, length-replicate, getD-replicate}
+use lib.ListN.{length, set, replicate, length-set, length-replicate, getD-replicate}
 use lib.Seq.{getD-set-same, getD-set-other}
-use Rattle.rules.specs.Sum.{sumTo}
 use Rattle.rules.specs.Sets.{has}
 use Rattle.rules.specs.Plan.{at}
 use Rattle.sums.proofs.Sum.{sum-zero}
 use Rattle.sums.proofs.Sets.{has-zero}
 use Rattle.planner.specs.Certificate.{cell}
 use Rattle.planner.specs.Fill.{Filling, FillReady, Copied, raise, lower}
-use Rattle.planner.specs.Back.{Placed, PlacedOn}
+use Rattle.planner.specs.Back.{PlacedOn}
 use Rattle.planner.specs.Search.{Sized}
 use Rattle.planner.proofs.StepLaws.{placed, place-fits}
 use Rattle.planner.proofs.ShiftLaws.{settle-done}

@@ -1,12 +1,12 @@
 -- The search found no core with room: the excess of what it found says whether all budgets have their units, or which group lacks most.
 -- Assumes nothing.
-use mathlib.Core.Path.{_≡_, refl, sym, _∙_, ap, ap₂, subst}
+use mathlib.Core.Path.{_≡_, sym, _∙_, ap, subst}
 use mathlib.Core.List.{List}
-use Prim.Native.Nat.{ℕ, zero, suc, _+_, _-_, _*_, _^_, _≤_, _<_}
+use Prim.Native.Nat.{ℕ, _+_, _-_, _*_, _^_, _≤_, _<_}
 use native.Mathlib.Omega.{arith}
 use lib.ListN.{length, List·getD-eq-default}
 use Rattle.rules.specs.Sum.{sumTo}
-use Rattle.rules.specs.Sets.{has, union}
+use Rattle.rules.specs.Sets.{has}
 use Rattle.rules.specs.Plan.{at}
 use Rattle.rules.specs.Excess.{groupBudget, capacity}
 use Rattle.sums.proofs.Sum.{sum-split, sum-zero}

@@ -4,9 +4,8 @@
 -- Assumes nothing.
 use mathlib.Core.Path.{_≡_, refl, sym, _∙_, ap, ap₂}
 use mathlib.Core.Logic.{_⊎_, inl, inr, ⊎-elim}
-use mathlib.Core.Bool.{Bool, true, false, cond}
-use Prim.Native.Nat.{ℕ, zero, suc, min, max, _+_, _*_, _-_, _^_, _≤_, _<_}
-use native.Mathlib.Nat.{le-trans, le-of-eq, mul-le-mul-right, add-mul, max-add-min, mul-suc, not-suc-le-zero, mul-comm, one-mul, zero-mul}
+use Prim.Native.Nat.{ℕ, zero, suc, _+_, _*_, _-_, _^_, _≤_, _<_}
+use native.Mathlib.Nat.{le-trans, le-of-eq, mul-le-mul-right, add-mul, max-add-min, mul-suc, not-suc-le-zero}
 use native.Mathlib.Decide.{ℕ-discrete, decLt, decLe}
 use native.Mathlib.Omega.{arith}
 use lib.Bits.{bitOr, bitAnd, or-lt, and-lt}
@@ -16,7 +15,7 @@ use Rattle.rules.specs.Sets.{has, union}
 use Rattle.rules.specs.Allocation.{Allocation}
 use Rattle.rules.specs.Excess.{groupBudget, capacity, groupCapacity, Exceeds, Overload}
 use Rattle.sums.proofs.Sum.{put-same, put-other, sum-put, sum-cong, sum-le, sum-zero, sum-add, sum-term, sum-some}
-use Rattle.sums.proofs.Sets.{has-lt, has-zero, has-one, has-none, has-or, has-and, with-same, with-other, with-lt, union-has, union-from}
+use Rattle.sums.proofs.Sets.{has-lt, has-zero, has-none, has-or, has-and, with-same, with-other, with-lt, union-has, union-from}
 use Rattle.planner.proofs.StepLaws.{sum-change}
 use Rattle.planner.proofs.Verdict.{part-in, part-out, allocation-fits-every-group}
 

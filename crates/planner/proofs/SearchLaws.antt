@@ -1,22 +1,22 @@
 -- Laws of the search: a core is queued, a task is found, and steps follow each other.
 -- Assumes nothing.
-use mathlib.Core.Path.{_≡_, refl, sym, _∙_, ap, ap₂}
+use mathlib.Core.Path.{_≡_, refl, sym, _∙_, ap}
 use mathlib.Core.List.{List}
-use Prim.Native.Nat.{ℕ, zero, suc, _+_, _*_, _^_, _≤_, _<_}
+use Prim.Native.Nat.{ℕ, _+_, _^_, _≤_, _<_}
 use native.Mathlib.Nat.{le-refl, le-trans}
 use native.Mathlib.Decide.{ℕ-discrete, decLt}
 use native.Mathlib.Omega.{arith}
 use lib.Bits.{bitOr}
-use lib.ListN.{length, getD, set, length-set}
+use lib.ListN.{set, length-set}
 use lib.Seq.{getD-set-same, getD-set-other}
 use Rattle.rules.specs.Sum.{sumTo}
 use Rattle.rules.specs.Sets.{has}
 use Rattle.rules.specs.Plan.{at}
 use Rattle.sums.proofs.Sum.{sum-lt, sum-const, sum-count, sum-zero}
-use Rattle.sums.proofs.Sets.{has-none, has-le-one, has-zero, has-or, has-lt, with-same, with-other, with-keeps, with-lt}
+use Rattle.sums.proofs.Sets.{has-none, has-le-one, has-or, has-lt, with-same, with-other, with-keeps, with-lt}
 use Rattle.planner.specs.Certificate.{cell}
 use Rattle.planner.specs.declared.search.Seen.{Seen}
-use Rattle.planner.specs.Search.{Found, MasksIn, Reached, Swept}
+use Rattle.planner.specs.Search.{Found, Reached, Swept}
 use Rattle.planner.proofs.StepLaws.{sum-change}
 
 clash : {a : ℕ} → a ≡ 0 → a ≡ 1 → ⊥

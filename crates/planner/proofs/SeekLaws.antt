@@ -1,22 +1,20 @@
 -- The search core after core: what is kept, the way back where a core has room, and the verdict where none has.
 -- Assumes nothing.
-use mathlib.Core.Path.{_≡_, refl, sym, _∙_, ap, ap₂}
+use mathlib.Core.Path.{_≡_, ap}
 use mathlib.Core.List.{List}
-use Prim.Native.Nat.{ℕ, zero, suc, _+_, _*_, _^_, _≤_, _<_}
-use native.Mathlib.Nat.{le-refl, le-trans, not-suc-le-zero}
+use Prim.Native.Nat.{ℕ, zero, suc, _+_, _≤_, _<_}
+use native.Mathlib.Nat.{le-refl, not-suc-le-zero}
 use native.Mathlib.Decide.{ℕ-discrete, decLt}
 use native.Mathlib.Omega.{arith}
 use lib.Arith.{le-zero}
 use lib.Pow.{pow-pos}
-use lib.ListN.{length}
-use Rattle.rules.specs.Sum.{sumTo}
 use Rattle.rules.specs.Sets.{has}
 use Rattle.rules.specs.Plan.{at}
 use Rattle.sums.proofs.Sets.{has-none, has-below}
 use Rattle.planner.specs.Certificate.{cell}
 use Rattle.planner.specs.Flow.{Closed, Stuck}
 use Rattle.planner.specs.declared.search.Seen.{Seen}
-use Rattle.planner.specs.Search.{Found, MasksIn, Swept, Sized, Sought, Way, nothing}
+use Rattle.planner.specs.Search.{Found, Swept, Sized, Sought, Way, nothing}
 use Rattle.planner.proofs.SearchLaws.{short, counted-nothing}
 
 never : {A : Type 0} {k : ℕ} → k < 0 → A

@@ -1,12 +1,12 @@
 -- A step of the way back as the code takes it: the amount, the units taken, the units placed.
 -- Assumes nothing.
-use mathlib.Core.Path.{_≡_, refl, sym, _∙_, ap, ap₂}
+use mathlib.Core.Path.{_≡_, _∙_}
 use mathlib.Core.List.{List}
 use Prim.Native.Nat.{ℕ, _+_, _*_, _≤_, _<_}
 use Rattle.rules.specs.Plan.{at}
 use Rattle.planner.specs.Certificate.{cell}
 use Rattle.planner.specs.Fill.{raise, lower}
-use Rattle.planner.specs.Back.{ShiftFits, Shifted, PlaceFits, Placed}
+use Rattle.planner.specs.Back.{ShiftFits, Shifted, Placed}
 
 module _ {units left room u l r : List ℕ} {t j k d e : ℕ} (amount : e ≡ d) (units-taken : u ≡ lower units (t * 16 + j) e)
     (left-taken : l ≡ raise left t e) (room-taken : r ≡ raise room j e) where

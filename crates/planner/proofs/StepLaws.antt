@@ -1,8 +1,8 @@
 -- The two elementary steps keep a partial allocation at every moment: units are placed, and units are taken away.
 -- Assumes nothing.
-use mathlib.Core.Path.{_≡_, refl, sym, _∙_, ap, ap₂}
+use mathlib.Core.Path.{_≡_, sym, _∙_, ap, ap₂}
 use mathlib.Core.List.{List}
-use Prim.Native.Nat.{ℕ, zero, suc, _+_, _-_, _*_, _^_, _≤_, _<_}
+use Prim.Native.Nat.{ℕ, _+_, _-_, _*_, _≤_, _<_}
 use native.Mathlib.Decide.{ℕ-discrete}
 use native.Mathlib.Omega.{arith}
 use lib.ListN.{length, getD, set, length-set}
@@ -12,7 +12,7 @@ use Rattle.rules.specs.Sets.{has}
 use Rattle.rules.specs.Plan.{at}
 use Rattle.sums.proofs.Sum.{put-same, put-other, sum-put, sum-cong, sum-term}
 use Rattle.planner.specs.Certificate.{cell}
-use Rattle.planner.specs.Fill.{Given, Filling, raise, lower}
+use Rattle.planner.specs.Fill.{Filling, raise, lower}
 
 -- one term changed
 pub sum-change : (n k : ℕ) (f g : ℕ → ℕ) → k < n → ((i : ℕ) → i < n → (i ≡ k → ⊥) → g i ≡ f i) → sumTo n g + f k ≡ sumTo n f + g k

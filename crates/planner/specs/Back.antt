@@ -1,9 +1,10 @@
--- One step of the way back, over the lists that the code holds: what it asks, and what it leaves. This makes the proofs easy and needs no
--- belief.
+-- One step of the way back, or of the first round, over the lists that the code holds: what it asks, and what it leaves. This makes the
+-- proofs easy and needs no belief.
 -- Assumes nothing.
 use mathlib.Core.Path.{_≡_}
 use mathlib.Core.List.{List}
 use Prim.Native.Nat.{ℕ, min, _+_, _*_, _≤_, _<_}
+use Rattle.rules.specs.Sets.{has}
 use Rattle.rules.specs.Plan.{at}
 use Rattle.planner.specs.Certificate.{cell}
 use Rattle.planner.specs.Fill.{raise, lower}
@@ -37,6 +38,11 @@ pub record Placed (units left room : List ℕ) (t k d : ℕ) (units' left' room'
   pub units-now : units' ≡ raise units (t * 16 + k) d
   pub left-now : left' ≡ lower left t d
   pub room-now : room' ≡ lower room k d
+
+-- task t got what core j had room for, if its mask holds the core
+pub record PlacedOn (units left room : List ℕ) (t j mask : ℕ) (units' left' room' : List ℕ) : Type 0 where
+  pub outside : has mask j ≡ 0 → (units' ≡ units) × (left' ≡ left) × (room' ≡ room)
+  pub inside : has mask j ≡ 1 → Placed units left room t j (min (at left t) (at room j)) units' left' room'
 
 -- what the room of the core at the place p takes from the earlier core, and what it takes of the task that lacks units
 abbrev pub backward : List ℕ → List ℕ → List ℕ → List ℕ → List ℕ → ℕ → ℕ

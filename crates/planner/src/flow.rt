@@ -1,15 +1,17 @@
 // A greatest allocation of units to cores, or the group that lacks most: the search of `search`, run until it finds no core with room.
 ghost use mathlib.Core.Path.{_≡_};
-ghost use Prim.Native.Nat.{_≤_, _<_};
+ghost use Prim.Native.Nat.{_+_, _≤_, _<_};
 ghost use lib.ListN.{length};
+ghost use Rattle.planner.specs.Certificate.{cell};
 ghost use Rattle.planner.specs.Search.{Sized};
 ghost use Rattle.rules.specs.Plan.{at};
 ghost use Rattle.planner.specs.Fill.{Filling, FillReady, Copied};
-ghost use Rattle.planner.specs.Back.{ShiftFits, Shifted, PlaceFits, Placed, Reads, backward, lacking};
+ghost use Rattle.planner.specs.Back.{ShiftFits, Shifted, PlaceFits, Placed, PlacedOn, Reads, backward, lacking};
 ghost use Rattle.planner.specs.Filled.{FilledBy, PassBy};
 use crate::excess::excess;
 use crate::search::Outcome;
 use crate::search::seek;
+use crate::sets::core_in;
 use crate::steps::least;
 use crate::steps::place;
 use crate::steps::take;
@@ -185,6 +187,72 @@ fn copy_budgets(budgets: &[u32], left: &mut [u32; 64])
     }
 }
 
+// Task t gets what core j has room for, if its mask holds the core.
+fn place_on(
+    units: &mut [u32; 1024],
+    left: &mut [u32; 64],
+    room: &mut [u32; 16],
+    t: usize,
+    mask: u16,
+    j: usize,
+)
+    requires { ⌜ (t < 64) × (j < 16) × (cell (now units) t j + at (now room) j ≤ 1000000) ⌝ }
+    ensures { λ _. ⌜
+        PlacedOn
+        (now (units .entry))
+        (now (left .entry))
+        (now (room .entry))
+        t
+        j
+        mask
+        (now (units .exit))
+        (now (left .exit))
+        (now (room .exit))
+        ⌝ }
+{
+    if core_in(mask, j) == 0 {
+        return;
+    }
+    let d = least(left[t], room[j]);
+    place(units, left, room, t, j, d);
+}
+
+// The first round, which spares most searches: all cores have room, and each task takes what the cores of its mask have left.
+fn place_first(
+    frame: u32,
+    cores: usize,
+    budgets: &[u32],
+    masks: &[u16],
+    units: &mut [u32; 1024],
+    left: &mut [u32; 64],
+    room: &mut [u32; 16],
+)
+    requires { ⌜ FillReady frame cores (now budgets) (now masks) (now units) × (length (now left) ≡ 64) ⌝ }
+    ensures { λ _. ⌜
+        Filling
+        frame
+        cores
+        (now (budgets .entry))
+        (now (masks .entry))
+        (now (units .exit))
+        (now (left .exit))
+        (now (room .exit))
+        ⌝ }
+{
+    copy_budgets(budgets, left);
+    *room = [frame; 16];
+    let mut t = 0;
+    while t < budgets.len() {
+        let mask = masks[t];
+        let mut j = 0;
+        while j < cores {
+            place_on(units, left, room, t, mask, j);
+            j += 1;
+        }
+        t += 1;
+    }
+}
+
 // Search after search, until no core with room is found.
 pub(crate) fn fill(
     frame: u32,
@@ -197,8 +265,8 @@ pub(crate) fn fill(
     ensures { λ r. ⌜ FilledBy frame cores (now (budgets .entry)) (now (masks .entry)) (now (units .exit)) r ⌝ }
 {
     let mut left = [0u32; 64];
-    copy_budgets(budgets, &mut left);
     let mut room = [frame; 16];
+    place_first(frame, cores, budgets, masks, units, &mut left, &mut room);
     let mut queue = [0usize; 16];
     let mut via = [0usize; 16];
     let mut from = [0usize; 64];

@@ -1,3 +1,4 @@
+-- The way back keeps a partial allocation; where no core has room, the excess decides. Assumes nothing.
 use Rattle.planner.proofs.BackLaws.{way-paired}
 -- The way back keeps a partial allocation; where no core has room, the excess decides. Assumes nothing.
 use mathlib.Core.Path.{_≡_, refl}

@@ -5,7 +5,7 @@ use Rattle.rules.specs.Sum.{sumTo}
 use Rattle.rules.specs.Plan.{at}
 use Rattle.planner.specs.Fill.{Filling}
 use Rattle.planner.specs.Search.{Sized}
-use Rattle.planner.proofs.FillLaws.{fill-start, sized-start}
+use Rattle.planner.proofs.FillLaws.{sized-start}
 use borrow.Author.Needs.{needs}
 use Rattle.planner.proofs.flow.fill.Statement.{statement}
 use Rattle.planner.proofs.flow.fill.Tie as tie
@@ -18,11 +18,11 @@ abbrev μ-loop : tie.MeasureT-loop
 μ-loop frame cores budgets masks units₀ left₀ room₀ queue₀ via₀ from₀ units left room queue via from =
     sumTo (length budgets) (at left)
 
-copy-budgets-requires : tie.Need-copy-budgets-requires Inv-loop μ-loop
-copy-budgets-requires c κs = (c .before .before .before .pre .given .tasks, refl)
+place-first-requires : tie.Need-place-first-requires Inv-loop μ-loop
+place-first-requires c κs = (c .before .before .before .before .before .pre, refl)
 
 loop-holds : tie.Need-loop-holds Inv-loop μ-loop
-loop-holds c = (fill-start (c .before .before .before .before .pre) (c .copy-budgets .ensures), sized-start)
+loop-holds c = (c .place-first .ensures, sized-start)
 
 advance-requires : tie.Need-advance-requires Inv-loop μ-loop
 advance-requires c κs = search needs
@@ -48,7 +48,7 @@ fill-spec =
     (tie.spec
     Inv-loop
     μ-loop
-    copy-budgets-requires
+    place-first-requires
     loop-holds
     advance-requires
     enum-told

@@ -2,9 +2,7 @@
 use mathlib.Core.Path.{refl}
 use Prim.Native.Nat.{_-_, _≤_}
 use lib.ListN.{length}
-use native.Mathlib.Omega.{arith}
 use Rattle.rules.specs.Plan.{at}
-use Rattle.planner.specs.Certificate.{cell}
 use Rattle.planner.specs.Search.{Swept, nothing}
 use Rattle.planner.proofs.SearchLaws.{counted-nothing, sweep-start, swept-then, sweep-end}
 use borrow.Author.Needs.{needs}

@@ -11,7 +11,7 @@ use lib.ListN.{length, getD, take, drop, length-append}
 use lib.Seq.{drop-drop}
 use mir.Val.{Fits}
 use mir.Syntax.{w32}
-use Rattle.rules.specs.Sum.{sumTo}
+use Rattle.rules.specs.Sum.{sumTo, positive}
 use Rattle.rules.specs.Piece.{Piece, numbersOf}
 use Rattle.rules.specs.Layout.{Walk, ahead, stretch}
 use Rattle.rules.specs.Table.{cut, insertAll, piecesOn, coreTo, coresTo}
@@ -49,3 +49,62 @@ module _ (F n : ℕ) (units : List ℕ) (core start first : ℕ) (g : OnCore F n
       → (from ≤ count) × (count < 998) × ((start + a) % F < F) × (F ≤ 1000000) × (cell units task core ≤ F) × (4 * (count + length (cut F core task ((start + a) % F) (cell units task core))) ≤ room)
   stretch-asked from count task a room l h k ne e r =
       (h, omega arith, mod-lt (start + a) (g .frame-some), g .frame-most, le-trans (sum-term n task (λ i. cell units i core) l) (g .column), rw (sym (task-is task a ne e)) r)
+
+module _ (F n : ℕ) (units : List ℕ) (core start first : ℕ) where
+  -- the tasks below t are laid
+  pub record LaidTo (from : ℕ) (before : List ℕ) (t count : ℕ) (after : List ℕ) : Type 0 where
+    pub counted : count ≡ from + length (corePieces F n units start first core t)
+    pub laid : Appends from (corePieces F n units start first core t) before after
+    pub long : length after ≡ length before
+
+  pub laid-begin : (from : ℕ) (l : List ℕ) → LaidTo from l 0 from l
+  unfolding coreTo
+  laid-begin from l = record { counted = omega arith; laid = λ a rest la e. e; long = refl }
+
+  length-next : (t : ℕ) → length (corePieces F n units start first core (suc t)) ≡ length (taskPieces F n units start first core t) + length (corePieces F n units start first core t)
+  unfolding coreTo
+  length-next t = length-insert-all (taskPieces F n units start first core t) (corePieces F n units start first core t)
+
+  four-next : (t : ℕ)
+      → 4 * length (corePieces F n units start first core t) + 4 * length (taskPieces F n units start first core t) ≡ 4 * length (corePieces F n units start first core (suc t))
+  four-next t = omega (arith, length-next t)
+
+  length-up : (t c : ℕ) → t ≤ c → length (corePieces F n units start first core t) ≤ length (corePieces F n units start first core c)
+  length-up t c l =
+      omega (
+        arith,
+        length-core F n n (cell units) (alone start first) core t,
+        length-core F n n (cell units) (alone start first) core c,
+        sum-mono t c (λ i. positive (cell units i core)) l,
+        sum-mono t c (crosses F n n (cell units) (alone start first) core) l,
+      )
+
+  pub laid-more : (from : ℕ) (l u v : List ℕ) (t count r : ℕ) → LaidTo from l t count u
+      → (r ≡ count + length (taskPieces F n units start first core t)) × Inserts from count (taskPieces F n units start first core t) u v → length v ≡ length u → LaidTo from l (t + 1) r v
+  unfolding coreTo
+  laid-more from l u v t count r h k e =
+      record {
+        counted = rw (add-one t) (k .0 ∙ omega (arith, h .counted, length-next t));
+        laid =
+            λ a rest la d.
+            rw (add-one t)
+            (k .1 a (corePieces F n units start first core t) (drop (4 * length (corePieces F n units start first core t)) rest) la (omega (arith, h .counted)) (h .laid a rest la d)
+            ∙ ap (λ (s : List ℕ). numbersOf a ++ (numbersOf (insertAll (taskPieces F n units start first core t) (corePieces F n units start first core t)) ++ s))
+            (drop-drop (4 * length (taskPieces F n units start first core t)) (4 * length (corePieces F n units start first core t)) rest
+            ∙ ap (λ (i : ℕ). drop i rest) (four-next t)));
+        long = e ∙ h .long;
+      }
+
+  pub laid-done : (from : ℕ) (l u : List ℕ) (t count : ℕ) → t ≤ n → n ≤ t → LaidTo from l t count u
+      → (count ≡ from + length (corePieces F n units start first core n)) × Appends from (corePieces F n units start first core n) l u
+  laid-done from l u t count a b h =
+      subst (λ (i : ℕ). (count ≡ from + length (corePieces F n units start first core i)) × Appends from (corePieces F n units start first core i) l u) (meets a b) (h .counted, h .laid)
+    where
+      meets : {k m : ℕ} → k ≤ m → m ≤ k → k ≡ m
+      meets a b = omega arith
+
+  pub laid-asks : (from : ℕ) (l u : List ℕ) (t count : ℕ) → OnCore F n units core start first → from + length (corePieces F n units start first core n) < 900
+      → 4 * (from + length (corePieces F n units start first core n)) ≤ length l → t < n → LaidTo from l t count u
+      → OnCore F n units core start first × (t < n) × (from ≤ count) × (count < 900) × (4 * (count + length (taskPieces F n units start first core t)) ≤ length u)
+  laid-asks from l u t count g few room s h =
+      (g, s, omega (arith, h .counted), omega (arith, h .counted, length-up t n (omega arith)), omega (arith, h .counted, h .long, length-next t, length-up (suc t) n s))

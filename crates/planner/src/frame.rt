@@ -50,3 +50,33 @@ fn lay_task(
         len,
     )
 }
+
+// The pieces of a core follow the first `from` pieces of the table. The number of pieces then.
+fn lay_core(
+    table: &mut [u32],
+    units: &[u32; 1024],
+    frame: u32,
+    tasks: usize,
+    core: usize,
+    at: u32,
+    first: usize,
+    from: usize,
+) -> usize
+    requires { ⌜
+        OnCore frame tasks (now units) core at first ×
+        (from + length (corePieces frame tasks (now units) at first core tasks) < 900) ×
+        (4 * (from + length (corePieces frame tasks (now units) at first core tasks)) ≤ length (now table))
+        ⌝ }
+    ensures { λ r. ⌜
+        (r ≡ from + length (corePieces frame tasks (now (units .entry)) at first core tasks)) ×
+        Appends from (corePieces frame tasks (now (units .entry)) at first core tasks) (now (table .entry)) (now (table .exit))
+        ⌝ }
+{
+    let mut count = from;
+    let mut t = 0;
+    while t < tasks {
+        count = lay_task(table, units, frame, tasks, core, at, first, from, count, t);
+        t += 1;
+    }
+    count
+}

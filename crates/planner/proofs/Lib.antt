@@ -19,3 +19,4 @@ pub mod Bounds
 pub mod GapLaws
 pub mod InsertLaws
 pub mod LayLaws
+pub mod Agree

@@ -20,3 +20,4 @@ pub mod GapLaws
 pub mod InsertLaws
 pub mod LayLaws
 pub mod Agree
+pub mod OutLaws

@@ -6,9 +6,6 @@ use Prim.Native.Nat.{_≤_, _-_}
 use Rattle.planner.proofs.LayLaws.{LaidTo, laid-begin, laid-more, laid-done, laid-asks}
 use Rattle.planner.proofs.frame.lay_core.Statement.{statement}
 use Rattle.planner.proofs.frame.lay_core.Tie as tie
-use Rattle.planner.proofs.frame.lay_core.Reads as reads
-use Rattle.planner.proofs.frame.lay_core.Lts as lts
-use Rattle.planner.proofs.frame.lay_task.Reads as lay-task-reads
 
 abbrev Inv-loop : tie.InvT-loop
 Inv-loop table₀ units frame tasks core at first from count₀ t₀ table count t = (t ≤ tasks) × LaidTo frame tasks units core at first from table₀ t count table

@@ -46,3 +46,5 @@ pub mod LayLaws
 pub mod NoTable
 pub mod Collected
 pub mod Promised
+pub mod Agree
+pub mod OutLaws

@@ -8,7 +8,7 @@ use lib.ListN.{length, getD, take, drop}
 use lib.Seq.{slice}
 use Rattle.rules.specs.Piece.{Piece, numbersOf}
 use Rattle.rules.specs.Sum.{sumTo}
-use Rattle.rules.specs.Table.{insertAll, piecesOn, coreTo}
+use Rattle.rules.specs.Table.{insertAll, piecesOn, coreTo, coresTo}
 use Rattle.rules.specs.Layout.{Walk}
 use Rattle.planner.specs.Certificate.{cell}
 
@@ -55,3 +55,24 @@ pub record OnCore (F n : ℕ) (units : List ℕ) (core start first : ℕ) : Type
   pub start-few : start ≤ 2048000000
   pub first-few : first ≤ n
   pub column : sumTo n (λ i. cell units i core) ≤ F
+
+-- a walk of which only the starts and the first tasks are kept
+abbrev pub startsOf : List ℕ → List ℕ → Walk
+startsOf start first =
+    record { visited = λ j. 0; reached = λ j. 0; met = λ t. 0; start = λ j. getD start j 0; first = λ j. getD first j 0 }
+
+-- the pieces of the cores below c
+abbrev pub coresPieces : ℕ → ℕ → ℕ → List ℕ → List ℕ → List ℕ → ℕ → List Piece
+coresPieces F n m units start first c = coresTo F n m (cell units) (startsOf start first) c
+
+-- before the pieces of all cores are laid
+pub record OnCores (F n m : ℕ) (units start first : List ℕ) (room : ℕ) : Type 0 where
+  pub frame-some : 1 ≤ F
+  pub frame-most : F ≤ 1000000
+  pub tasks : n ≤ 64
+  pub cores : m ≤ 16
+  pub starts : (k : ℕ) → getD start k 0 ≤ 2048000000
+  pub firsts : (k : ℕ) → getD first k 0 ≤ n
+  pub columns : (j : ℕ) → j < m → sumTo n (λ i. cell units i j) ≤ F
+  pub few : length (coresPieces F n m units start first m) < 900
+  pub room-for : 4 * length (coresPieces F n m units start first m) ≤ room

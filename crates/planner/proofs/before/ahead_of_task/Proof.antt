@@ -3,12 +3,8 @@
 use borrow.Author.Needs.{needs}
 use Rattle.planner.specs.Certificate.{cell}
 use Rattle.planner.proofs.AheadCode.{sum-part, task-itself, task-after, task-fits}
-use borrow.Author.Needs.{needs}
 use Rattle.planner.proofs.before.ahead_of_task.Statement.{statement}
 use Rattle.planner.proofs.before.ahead_of_task.Tie as tie
-use Rattle.planner.proofs.before.ahead_of_task.Reads as reads
-use Rattle.planner.proofs.before.ahead_of_task.Lts as lts
-use Rattle.planner.proofs.before.row.Reads as row-reads
 
 returns : tie.Need-returns
 returns c = let s = c .before in task-itself (cell (s .args .units .now) (s .args .task)) _ _ (c .if1 .taken)

@@ -3,12 +3,8 @@
 use borrow.Author.Needs.{needs}
 use Rattle.planner.specs.Certificate.{cell}
 use Rattle.planner.proofs.AheadCode.{sum-part, ahead-root, ahead-itself, ahead-after, ahead-fits}
-use borrow.Author.Needs.{needs}
 use Rattle.planner.proofs.before.ahead_on_core.Statement.{statement}
 use Rattle.planner.proofs.before.ahead_on_core.Tie as tie
-use Rattle.planner.proofs.before.ahead_on_core.Reads as reads
-use Rattle.planner.proofs.before.ahead_on_core.Lts as lts
-use Rattle.planner.proofs.before.column.Reads as column-reads
 
 column-requires : tie.Need-column-requires
 column-requires c κs = search (sum-part, needs)

@@ -1,3 +1,5 @@
+-- `before::column` meets its contract.
+-- Assumes nothing.
 use borrow.Author.Needs.{needs}
 use Rattle.planner.proofs.SumLoops.{sum-none, sum-more, sum-done, put-fits}
 use mathlib.Core.Path.{_≡_}
@@ -6,9 +8,6 @@ use Rattle.planner.specs.Certificate.{cell}
 use Rattle.rules.specs.Sum.{sumTo, put}
 use Rattle.planner.proofs.before.column.Statement.{statement}
 use Rattle.planner.proofs.before.column.Tie as tie
-use Rattle.planner.proofs.before.column.Reads as reads
-use Rattle.planner.proofs.before.column.Lts as lts
-use Rattle.planner.proofs.before.unless.Reads as unless-reads
 
 abbrev Inv-loop : tie.InvT-loop
 Inv-loop units core skip tasks sum₀ i₀ sum i = (i ≤ tasks) × (sum ≡ sumTo i (put skip 0 (λ k. cell units k core)))

@@ -1,3 +1,5 @@
+-- `before::row` meets its contract.
+-- Assumes nothing.
 use borrow.Author.Needs.{needs}
 use Rattle.planner.proofs.SumLoops.{sum-none, sum-more, sum-done, put-fits}
 use mathlib.Core.Path.{_≡_}
@@ -6,9 +8,6 @@ use Rattle.planner.specs.Certificate.{cell}
 use Rattle.rules.specs.Sum.{sumTo, put}
 use Rattle.planner.proofs.before.row.Statement.{statement}
 use Rattle.planner.proofs.before.row.Tie as tie
-use Rattle.planner.proofs.before.row.Reads as reads
-use Rattle.planner.proofs.before.row.Lts as lts
-use Rattle.planner.proofs.before.unless.Reads as unless-reads
 
 abbrev Inv-loop : tie.InvT-loop
 Inv-loop units task skip cores sum₀ i₀ sum i = (i ≤ cores) × (sum ≡ sumTo i (put skip 0 (cell units task)))

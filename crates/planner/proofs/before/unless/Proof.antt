@@ -4,8 +4,6 @@ use borrow.Author.Needs.{needs}
 use Rattle.planner.proofs.SumLoops.{unless-here, unless-other}
 use Rattle.planner.proofs.before.unless.Statement.{statement}
 use Rattle.planner.proofs.before.unless.Tie as tie
-use Rattle.planner.proofs.before.unless.Reads as reads
-use Rattle.planner.proofs.before.unless.Lts as lts
 
 returns : tie.Need-returns
 returns c = search (unless-here, needs)

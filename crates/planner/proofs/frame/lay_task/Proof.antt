@@ -2,13 +2,8 @@
 -- Assumes nothing.
 use borrow.Author.Needs.{needs}
 use Rattle.planner.proofs.LayLaws.{task-none, task-some, stretch-asked}
-use borrow.Author.Needs.{needs}
 use Rattle.planner.proofs.frame.lay_task.Statement.{statement}
 use Rattle.planner.proofs.frame.lay_task.Tie as tie
-use Rattle.planner.proofs.frame.lay_task.Reads as reads
-use Rattle.planner.proofs.frame.lay_task.Lts as lts
-use Rattle.planner.proofs.before.ahead_on_core.Reads as ahead-on-core-reads
-use Rattle.planner.proofs.pieces.add_stretch.Reads as add-stretch-reads
 
 mul-len : tie.Need-mul-len
 mul-len c = search needs

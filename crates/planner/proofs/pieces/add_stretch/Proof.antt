@@ -3,12 +3,8 @@
 use borrow.Author.Needs.{needs}
 use native.Mathlib.Omega.{arith}
 use Rattle.planner.proofs.InsertLaws.{room-one, room-two, cut-one, cut-two}
-use borrow.Author.Needs.{needs}
 use Rattle.planner.proofs.pieces.add_stretch.Statement.{statement}
 use Rattle.planner.proofs.pieces.add_stretch.Tie as tie
-use Rattle.planner.proofs.pieces.add_stretch.Reads as reads
-use Rattle.planner.proofs.pieces.add_stretch.Lts as lts
-use Rattle.planner.proofs.pieces.insert_piece.Reads as insert-piece-reads
 
 add-if1 : tie.Need-add-if1
 add-if1 c = search needs

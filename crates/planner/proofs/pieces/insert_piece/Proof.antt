@@ -2,14 +2,8 @@
 -- Assumes nothing.
 use borrow.Author.Needs.{needs}
 use Rattle.planner.proofs.InsertLaws.{insert-done}
-use borrow.Author.Needs.{needs}
 use Rattle.planner.proofs.pieces.insert_piece.Statement.{statement}
 use Rattle.planner.proofs.pieces.insert_piece.Tie as tie
-use Rattle.planner.proofs.pieces.insert_piece.Reads as reads
-use Rattle.planner.proofs.pieces.insert_piece.Lts as lts
-use Rattle.planner.proofs.pieces.open_gap.Reads as open-gap-reads
-use Rattle.planner.proofs.pieces.place_of.Reads as place-of-reads
-use Rattle.planner.proofs.pieces.write_piece.Reads as write-piece-reads
 
 place-of-requires : tie.Need-place-of-requires
 place-of-requires c κs = search needs

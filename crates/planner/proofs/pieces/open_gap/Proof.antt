@@ -8,8 +8,6 @@ use Rattle.planner.specs.Pieces.{gap}
 use Rattle.planner.proofs.GapLaws.{gap-begin, gap-more, gap-done}
 use Rattle.planner.proofs.pieces.open_gap.Statement.{statement}
 use Rattle.planner.proofs.pieces.open_gap.Tie as tie
-use Rattle.planner.proofs.pieces.open_gap.Reads as reads
-use Rattle.planner.proofs.pieces.open_gap.Lts as lts
 
 abbrev Inv-loop : tie.InvT-loop
 Inv-loop table₀ from to i₀ table i = (from ≤ i) × (i ≤ to) × (table ≡ gap table₀ i to) × (length table ≡ length table₀)

@@ -5,8 +5,6 @@ use Prim.Native.Nat.{_≤_, _-_}
 use Rattle.planner.proofs.GapLaws.{Passed, passed-none, passed-more, placed-here, placed-last}
 use Rattle.planner.proofs.pieces.place_of.Statement.{statement}
 use Rattle.planner.proofs.pieces.place_of.Tie as tie
-use Rattle.planner.proofs.pieces.place_of.Reads as reads
-use Rattle.planner.proofs.pieces.place_of.Lts as lts
 
 abbrev Inv-loop : tie.InvT-loop
 Inv-loop table from count start k₀ k = (from ≤ k) × (k ≤ count) × Passed table from count start k

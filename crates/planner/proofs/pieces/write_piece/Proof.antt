@@ -3,11 +3,8 @@
 use borrow.Author.Needs.{needs}
 use native.Mathlib.Omega.{arith}
 use lib.ListN.{length-set}
-use borrow.Author.Needs.{needs}
 use Rattle.planner.proofs.pieces.write_piece.Statement.{statement}
 use Rattle.planner.proofs.pieces.write_piece.Tie as tie
-use Rattle.planner.proofs.pieces.write_piece.Reads as reads
-use Rattle.planner.proofs.pieces.write_piece.Lts as lts
 
 mul-table : tie.Need-mul-table
 mul-table c = search needs

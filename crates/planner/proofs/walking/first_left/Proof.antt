@@ -8,9 +8,6 @@ use Rattle.rules.specs.Sum.{lowest}
 use Rattle.planner.proofs.WalkLaws.{leftOf, lowest-begin, left-hit, left-more, lowest-ended}
 use Rattle.planner.proofs.walking.first_left.Statement.{statement}
 use Rattle.planner.proofs.walking.first_left.Tie as tie
-use Rattle.planner.proofs.walking.first_left.Reads as reads
-use Rattle.planner.proofs.walking.first_left.Lts as lts
-use Rattle.planner.proofs.sets.core_in.Reads as core-in-reads
 
 abbrev Inv-loop : tie.InvT-loop
 Inv-loop wanted visited cores j₀ j = (j ≤ cores) × (lowest j (leftOf wanted visited) ≡ j)

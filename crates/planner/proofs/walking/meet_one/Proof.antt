@@ -2,15 +2,8 @@
 -- Assumes nothing.
 use borrow.Author.Needs.{needs}
 use Rattle.planner.proofs.WalkLaws.{met-none, met-old, met-new, ahead-asks, at-fits, reach-asks}
-use borrow.Author.Needs.{needs}
 use Rattle.planner.proofs.walking.meet_one.Statement.{statement}
 use Rattle.planner.proofs.walking.meet_one.Tie as tie
-use Rattle.planner.proofs.walking.meet_one.Reads as reads
-use Rattle.planner.proofs.walking.meet_one.Lts as lts
-use Rattle.planner.proofs.before.ahead_on_core.Reads as ahead-on-core-reads
-use Rattle.planner.proofs.sets.task_in.Reads as task-in-reads
-use Rattle.planner.proofs.sets.with_task.Reads as with-task-reads
-use Rattle.planner.proofs.walking.reach_cores.Reads as reach-cores-reads
 
 mul-if1 : tie.Need-mul-if1
 mul-if1 c = search needs

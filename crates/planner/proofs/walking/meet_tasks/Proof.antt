@@ -8,9 +8,6 @@ use Rattle.planner.specs.Walking.{walkOf, Kept}
 use Rattle.planner.proofs.WalkLaws.{meet-begin, meet-more, meet-done, meet-asks}
 use Rattle.planner.proofs.walking.meet_tasks.Statement.{statement}
 use Rattle.planner.proofs.walking.meet_tasks.Tie as tie
-use Rattle.planner.proofs.walking.meet_tasks.Reads as reads
-use Rattle.planner.proofs.walking.meet_tasks.Lts as lts
-use Rattle.planner.proofs.walking.meet_one.Reads as meet-one-reads
 
 abbrev Inv-loop : tie.InvT-loop
 Inv-loop units tasks cores core start₀ first₀ s₀ t₀ start first s t = (t ≤ tasks) × Kept (meet tasks cores (cell units) core t (walkOf s₀ start₀ first₀)) s start first

@@ -2,12 +2,8 @@
 -- Assumes nothing.
 use borrow.Author.Needs.{needs}
 use Rattle.planner.proofs.WalkLaws.{next-waiting, next-left}
-use borrow.Author.Needs.{needs}
 use Rattle.planner.proofs.walking.next_core.Statement.{statement}
 use Rattle.planner.proofs.walking.next_core.Tie as tie
-use Rattle.planner.proofs.walking.next_core.Reads as reads
-use Rattle.planner.proofs.walking.next_core.Lts as lts
-use Rattle.planner.proofs.walking.first_left.Reads as first-left-reads
 
 first-left-requires : tie.Need-first-left-requires
 first-left-requires c κs = search needs

@@ -6,9 +6,6 @@ use Rattle.planner.specs.Walking.{walkOf}
 use Rattle.planner.proofs.WalkLaws.{ReachedTo, reach-begin, reach-more, reach-done, reach-on}
 use Rattle.planner.proofs.walking.reach_cores.Statement.{statement}
 use Rattle.planner.proofs.walking.reach_cores.Tie as tie
-use Rattle.planner.proofs.walking.reach_cores.Reads as reads
-use Rattle.planner.proofs.walking.reach_cores.Lts as lts
-use Rattle.planner.proofs.walking.reach_one.Reads as reach-one-reads
 
 abbrev Inv-loop : tie.InvT-loop
 Inv-loop units cores task core at start₀ first₀ s₀ k₀ start first s k = (k ≤ cores) × ReachedTo cores units task core at (walkOf s₀ start₀ first₀) k s start first

@@ -2,13 +2,8 @@
 -- Assumes nothing.
 use borrow.Author.Needs.{needs}
 use Rattle.planner.proofs.WalkLaws.{reached-none, reached-here, reached-new}
-use borrow.Author.Needs.{needs}
 use Rattle.planner.proofs.walking.reach_one.Statement.{statement}
 use Rattle.planner.proofs.walking.reach_one.Tie as tie
-use Rattle.planner.proofs.walking.reach_one.Reads as reads
-use Rattle.planner.proofs.walking.reach_one.Lts as lts
-use Rattle.planner.proofs.before.ahead_of_task.Reads as ahead-of-task-reads
-use Rattle.planner.proofs.sets.with_core.Reads as with-core-reads
 
 mul-if1 : tie.Need-mul-if1
 mul-if1 c = search needs

@@ -2,13 +2,8 @@
 -- Assumes nothing.
 use borrow.Author.Needs.{needs}
 use Rattle.planner.proofs.WalkLaws.{visit-done}
-use borrow.Author.Needs.{needs}
 use Rattle.planner.proofs.walking.visit_core.Statement.{statement}
 use Rattle.planner.proofs.walking.visit_core.Tie as tie
-use Rattle.planner.proofs.walking.visit_core.Reads as reads
-use Rattle.planner.proofs.walking.visit_core.Lts as lts
-use Rattle.planner.proofs.sets.with_core.Reads as with-core-reads
-use Rattle.planner.proofs.walking.meet_tasks.Reads as meet-tasks-reads
 
 with-core-requires : tie.Need-with-core-requires
 with-core-requires c κs = search needs

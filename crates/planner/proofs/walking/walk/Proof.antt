@@ -8,10 +8,6 @@ use Rattle.planner.specs.Walking.{walkOf, Kept}
 use Rattle.planner.proofs.WalkLaws.{walk-begin, walk-more, walk-done, walk-asks}
 use Rattle.planner.proofs.walking.walk.Statement.{statement}
 use Rattle.planner.proofs.walking.walk.Tie as tie
-use Rattle.planner.proofs.walking.walk.Reads as reads
-use Rattle.planner.proofs.walking.walk.Lts as lts
-use Rattle.planner.proofs.walking.next_core.Reads as next-core-reads
-use Rattle.planner.proofs.walking.visit_core.Reads as visit-core-reads
 
 abbrev Inv-loop : tie.InvT-loop
 Inv-loop units tasks cores start₀ first₀ s₀ c₀ start first s c = (c ≤ cores) × Kept (visits tasks cores (cell units) c) s start first

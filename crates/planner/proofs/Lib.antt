@@ -48,3 +48,4 @@ pub mod Collected
 pub mod Promised
 pub mod Agree
 pub mod OutLaws
+pub mod DecideLaws

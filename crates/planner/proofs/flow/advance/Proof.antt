@@ -1,12 +1,10 @@
 -- The way back keeps a partial allocation; where no core has room, the excess decides. Assumes nothing.
-use Rattle.planner.proofs.BackLaws.{way-paired}
--- The way back keeps a partial allocation; where no core has room, the excess decides. Assumes nothing.
 use mathlib.Core.Path.{_≡_, refl}
 use lib.ListN.{length}
 use native.Mathlib.Omega.{arith}
 use Rattle.planner.specs.Fill.{Filling}
 use Rattle.planner.specs.Search.{Way}
-use Rattle.planner.proofs.BackLaws.{way-small, back-ready, back-kept, last-ready, last-kept, back-small}
+use Rattle.planner.proofs.BackLaws.{way-small, back-ready, back-kept, last-ready, last-kept, back-small, way-paired}
 use Rattle.planner.proofs.EndLaws.{ended-whole, ended-short}
 use borrow.Author.Needs.{needs}
 use Rattle.planner.proofs.flow.advance.Statement.{statement}

@@ -21,3 +21,14 @@ pub mod InsertLaws
 pub mod LayLaws
 pub mod Agree
 pub mod OutLaws
+pub mod Strip
+pub mod Links
+pub mod Loose
+pub mod Shifting
+pub mod Stores
+pub mod RingLaws
+pub mod Pigeon
+pub mod Ways
+pub mod WayLaws
+pub mod CycleLaws
+pub mod UnloopLaws

@@ -4,3 +4,6 @@ pub mod Small
 pub mod Flow
 pub mod Walking
 pub mod Pieces
+pub mod Stripping
+pub mod Ring
+pub mod Path

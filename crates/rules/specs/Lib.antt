@@ -20,3 +20,4 @@ pub mod Jobs
 pub mod Walked
 pub mod Line
 pub mod LineCall
+pub mod Settled

@@ -1,22 +1,22 @@
 -- After m visits every core was visited, and each task with units was laid out from the core where it was met: one equation between the two
 -- readings of where a stretch starts, that of its core and that of its task.
 -- Assumes nothing.
-use mathlib.Core.Path.{_≡_, refl, sym, _∙_, ap, ap₂, fun-ext}
-use mathlib.Core.Bool.{Bool, true, false, cond}
+use mathlib.Core.Path.{_≡_, refl, sym, _∙_, ap, fun-ext}
+use mathlib.Core.Bool.{Bool, false, cond}
 use mathlib.Core.Logic.{_⊎_, inl, inr, ⊎-elim}
-use Prim.Native.Nat.{ℕ, zero, suc, _+_, _-_, _*_, _≤_, _<_}
+use Prim.Native.Nat.{ℕ, zero, suc, _-_, _*_, _≤_, _<_}
 use native.Mathlib.Nat.{le-refl, le-trans, not-suc-le-zero, mul-one, sub-self}
-use native.Mathlib.Decide.{ℕ-discrete, decLt, decLe}
+use native.Mathlib.Decide.{ℕ-discrete, decLt}
 use native.Mathlib.Omega.{arith}
-use lib.Dec.{eqb, ltb}
-use borrow.Author.Tests.{eq-eqb, ne-eqb, lt-ltb, le-ltb}
+use lib.Dec.{eqb}
+use borrow.Author.Tests.{ne-eqb, lt-ltb, le-ltb}
 use Rattle.rules.specs.Sum.{sumTo, put, lowest}
-use Rattle.rules.specs.Layout.{Walk, ahead, begun, stretch, reach, meetMark, meetOne, meet, visitMark, visit, waiting, unvisited, nextCore, visits, layout}
-use Rattle.sums.proofs.Sum.{put-same, put-other, sum-cong, sum-le, sum-zero, sum-put, sum-term, sum-count, sum-tight, sum-const}
+use Rattle.rules.specs.Layout.{Walk, begun, meetOne, meet, visitMark, visit, waiting, unvisited, nextCore, visits, layout}
+use Rattle.sums.proofs.Sum.{put-same, put-other, sum-le, sum-zero, sum-put, sum-tight, sum-const}
 use Rattle.planner.specs.Certificate.{Peeled}
-use Rattle.planner.proofs.Forest.{edges, left-pos, right-pos}
-use Rattle.planner.proofs.Reaching.{SameAt, same-refl, same-trans, pred-of, zero-of, meet-none, meet-old, meet-fresh}
-use Rattle.planner.proofs.Growing.{Laid, Kept, kept-trans, Growing, newTasks, newCores, laid-kept, after, after-visited, after-kept, after-met-more, after-met-here, after-growing}
+use Rattle.planner.proofs.Forest.{left-pos, right-pos}
+use Rattle.planner.proofs.Reaching.{same-refl, pred-of, zero-of, meet-none, meet-old, meet-fresh}
+use Rattle.planner.proofs.Growing.{Laid, Kept, kept-trans, Growing, newTasks, newCores, laid-kept, after-visited, after-kept, after-met-more, after-met-here, after-growing}
 
 -- the lowest number where f is not 0: f is not 0 there, and without one f is 0 everywhere
 pub lowest-hit : (n : ℕ) (f : ℕ → ℕ) → lowest n f < n → 0 < f (lowest n f)

@@ -1,17 +1,17 @@
 -- The code's steps are those of the walk.
 -- Assumes nothing.
 use mathlib.Core.Path.{_≡_, refl, sym, _∙_, ap, ap₂, subst, fun-ext}
-use mathlib.Core.List.{List, [], _∷_}
+use mathlib.Core.List.{List}
 use Prim.Native.Nat.{ℕ, zero, suc, _+_, _-_, _*_, _^_, _≤_, _<_}
-use native.Mathlib.Nat.{le-refl, le-trans, one-mul, mul-one, mul-zero, zero-mul, not-suc-le-zero}
+use native.Mathlib.Nat.{one-mul, mul-one, mul-zero, zero-mul}
 use native.Mathlib.Numerals.{add-one}
 use native.Mathlib.Decide.{ℕ-discrete, decLt}
 use native.Mathlib.Omega.{arith}
 use lib.Bits.{bitOr}
-use lib.Dec.{eqb, ltb}
+use lib.Dec.{eqb}
 use borrow.Author.Tests.{eq-eqb, ne-eqb, lt-ltb, le-ltb}
-use mathlib.Core.Bool.{Bool, true, false, cond}
-use lib.ListN.{length, getD, set, length-set, replicate, length-replicate, getD-replicate, List·getD-eq-default}
+use mathlib.Core.Bool.{cond}
+use lib.ListN.{length, getD, set, length-set, replicate, getD-replicate, List·getD-eq-default}
 use lib.Seq.{getD-set-same, getD-set-other}
 use mir.Val.{Fits}
 use mir.Syntax.{w32}
@@ -22,7 +22,7 @@ use Rattle.sums.proofs.Sum.{put-same, put-other}
 use Rattle.sums.proofs.Sets.{has-with, has-none, has-le-one}
 use Rattle.planner.specs.Certificate.{cell, Peeled}
 use Rattle.planner.specs.Small.{Small}
-use Rattle.planner.specs.Walking.{walkOf, Kept, Bounded, Reaching, Meeting}
+use Rattle.planner.specs.Walking.{walkOf, Kept, Reaching, Meeting}
 use Rattle.planner.specs.declared.walking.Marks.{Marks}
 use Rattle.planner.proofs.LaidOut.{lowest-none, next-core, visits-state}
 use Rattle.planner.proofs.Bounds.{bounded-more, bounded-meet, bounded-visits}

@@ -2,7 +2,7 @@
 -- with as much holds it.
 -- Assumes nothing.
 use mathlib.Core.Path.{_≡_, refl, sym, _∙_, ap, ap₂}
-use Prim.Native.Nat.{ℕ, zero, suc, _+_, _*_, _-_, _^_, _≤_, _<_}
+use Prim.Native.Nat.{ℕ, _+_, _*_, _-_, _^_, _≤_, _<_}
 use native.Mathlib.Nat.{le-trans, mul-le-mul-right, mul-add, mul-zero, zero-mul, one-mul, le-antisymm, le-of-eq}
 use native.Mathlib.Decide.{ℕ-discrete, decLt}
 use native.Mathlib.Omega.{arith}
@@ -11,7 +11,7 @@ use Rattle.rules.specs.Sets.{has, union}
 use Rattle.rules.specs.Allocation.{Allocation}
 use Rattle.rules.specs.Excess.{groupBudget, capacity, groupCapacity, NoMore, Exceeds, Smallest}
 use Rattle.sums.proofs.Sum.{sum-cong, sum-le, sum-zero, sum-add, sum-scale, sum-swap, sum-term, sum-tight}
-use Rattle.sums.proofs.Sets.{has-lt, has-zero, has-one, has-le-one, has-ext, union-has, union-from, union-lt}
+use Rattle.sums.proofs.Sets.{has-zero, has-one, has-le-one, has-ext, union-has, union-from, union-lt}
 use Rattle.planner.specs.Flow.{Partial, Closed, Stuck}
 
 -- a member's part is the whole, any other's is nothing

@@ -2,8 +2,14 @@ pub mod Certificate
 pub mod Ready
 pub mod Small
 pub mod Flow
-pub mod Walking
-pub mod Pieces
 pub mod Stripping
 pub mod Ring
 pub mod Path
+pub mod Verdict
+pub mod Fill
+pub mod Search
+pub mod Filled
+pub mod Back
+pub mod Plan
+pub mod Walking
+pub mod Pieces

@@ -5,8 +5,8 @@ use Prim.Native.Nat.{ℕ, zero, suc, min, max, _+_, _*_, _/_, _%_, _^_, _≤_, _
 use native.Mathlib.Nat.{div-eq-of-lt, div-one, div-self, lt-of-lt-of-le, max-zero, mod-eq-of-lt, not-suc-le-zero, one-mul, pow-suc, pow-zero, zero-add, zero-div, zero-mul}
 use native.Mathlib.Decide.{ℕ-discrete, decLt}
 use native.Mathlib.Omega.{arith}
-use lib.Bits.{bitOr, bitAnd, and-mask, mask-lt, or-step, and-step, or-shr, and-shr, or-lt, and-lt}
-use lib.Pow.{pow-mono, pow-lt, pow-pos, shr-shr, shl-shr}
+use lib.Bits.{bitOr, bitAnd, and-mask, mask-lt, or-step, and-step, or-shr, and-shr, or-lt}
+use lib.Pow.{pow-mono, pow-lt, pow-pos, shr-shr}
 use lib.Count.{ones, ones-step}
 use Rattle.rules.specs.Sum.{sumTo, put}
 use Rattle.rules.specs.Sets.{has, union}

@@ -2,7 +2,6 @@
 use native.Mathlib.Omega.{arith}
 use mathlib.Core.Path.{refl}
 use Rattle.planner.proofs.GroupSum.{part-small}
-use borrow.Author.Needs.{needs}
 use Rattle.planner.proofs.excess.part.Statement.{statement}
 use Rattle.planner.proofs.excess.part.Tie as tie
 

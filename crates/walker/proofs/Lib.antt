@@ -1,0 +1,4 @@
+pub mod Periodic
+pub mod Units
+pub mod Loops
+pub mod Finish

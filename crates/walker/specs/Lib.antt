@@ -1,0 +1,3 @@
+pub mod Served
+pub mod Least
+pub mod Step

@@ -1,0 +1,110 @@
+// The job walker: "The table repeats from instant 0." Each job's finish is found by one pass over the task's own pieces,
+// however far away it lies.
+use rules::Answer;
+ghost use mathlib.Core.Path.{_≡_};
+ghost use mathlib.Core.Bool.{true, false};
+ghost use Prim.Native.Nat.{ℕ, _+_, _*_, _-_, _^_, _/_, _<_, _≤_, min, max};
+ghost use lib.ListN.{length, getD, drop};
+ghost use Rattle.rules.specs.Sum.{sumTo};
+ghost use Rattle.walker.specs.Served.{servedTo, unitsOf, Spans};
+ghost use Rattle.walker.specs.Least.{LeastAt, Reached, FinishBy};
+ghost use Rattle.walker.specs.Step.{Ready, UnitEnd, Counted, StepReady, Stepped};
+
+// "the later of its release and the previous job's finish"
+pub(crate) fn later(a: u64, b: u64) -> u64
+    ensures { λ r. ⌜ r ≡ max a b ⌝ }
+{
+    if a < b { b } else { a }
+}
+
+// A stretch's units before the instant r of the frame.
+pub(crate) fn part(start: u32, len: u32, r: u32) -> u64
+    ensures { λ p. ⌜ (p ≡ min len (r - start)) × (p < 2 ^ 32) ⌝ }
+{
+    if r <= start {
+        return 0;
+    }
+    let d = r - start;
+    if d < len {
+        return d as u64;
+    }
+    len as u64
+}
+
+// The task's units before the instant r of the frame.
+pub(crate) fn served(starts: &[u32], lens: &[u32], r: u32) -> u64
+    requires { ⌜ (length (now lens) ≡ length (now starts)) × (length (now starts) ≤ 95) ⌝ }
+    ensures { λ s. ⌜ s ≡ servedTo (now (starts .entry)) (now (lens .entry)) (length (now (starts .entry))) r ⌝ }
+{
+    let mut sum: u64 = 0;
+    let mut i: usize = 0;
+    while i < starts.len() {
+        sum += part(starts[i], lens[i], r);
+        i += 1;
+    }
+    sum
+}
+
+// The instant of the frame at which the task's k-th unit ends.
+pub(crate) fn unit_end(frame: u32, starts: &[u32], lens: &[u32], k: u64) -> u64
+    requires { ⌜ Ready frame (now starts) (now lens) × (1 ≤ k) × (k ≤ servedTo (now starts) (now lens) (length (now starts)) frame) ⌝ }
+    ensures { λ r. ⌜ UnitEnd frame (now (starts .entry)) (now (lens .entry)) k r ⌝ }
+{
+    let mut i: usize = 0;
+    let mut left = k;
+    while (lens[i] as u64) < left {
+        left -= lens[i] as u64;
+        i += 1;
+    }
+    starts[i] as u64 + left
+}
+
+// The task's units before the instant e: whole frames, and what the last one gives.
+pub(crate) fn units_before(frame: u32, starts: &[u32], lens: &[u32], total: u64, e: u64) -> u64
+    requires { ⌜ Counted frame (now starts) (now lens) total ⌝ }
+    ensures { λ r. ⌜ r ≡ unitsOf frame (now (starts .entry)) (now (lens .entry)) e ⌝ }
+{
+    let f = frame as u64;
+    let whole = e / f;
+    whole * total + served(starts, lens, (e % f) as u32)
+}
+
+// The least instant before which the task has `goal` units: whole frames, and the last unit in the frame after them.
+pub(crate) fn reach(frame: u32, starts: &[u32], lens: &[u32], total: u64, goal: u64) -> u64
+    requires { ⌜ Counted frame (now starts) (now lens) total × (1 ≤ total) × (1 ≤ goal) × Reached (unitsOf frame (now starts) (now lens)) goal ⌝ }
+    ensures { λ r. ⌜ LeastAt (unitsOf frame (now (starts .entry)) (now (lens .entry))) goal r ⌝ }
+{
+    let whole = (goal - 1) / total;
+    let end = unit_end(frame, starts, lens, goal - whole * total);
+    whole * frame as u64 + end
+}
+
+// The walk's clock: how far the jobs so far have come.
+pub(crate) struct Clock {
+    pub at: u64,
+}
+
+impl Clock {
+    // One job: it begins at the later of its release and the clock, and the next clock stands at its finish.
+    pub(crate) fn step(
+        self,
+        frame: u32,
+        starts: &[u32],
+        lens: &[u32],
+        total: u64,
+        release: u64,
+        units: u32,
+    ) -> Clock
+        requires { ⌜ StepReady frame (now starts) (now lens) total (max release (self .at)) units ⌝ }
+        ensures { λ r. ⌜ Stepped frame (now (starts .entry)) (now (lens .entry)) (max release (self .at)) units (r .at) ⌝ }
+    {
+        let begin = later(release, self.at);
+        if units == 0 {
+            return Clock { at: begin };
+        }
+        let before = units_before(frame, starts, lens, total, begin);
+        Clock {
+            at: reach(frame, starts, lens, total, before + units as u64),
+        }
+    }
+}

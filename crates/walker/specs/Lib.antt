@@ -1,3 +1,4 @@
 pub mod Served
 pub mod Least
 pub mod Step
+pub mod Gathered

@@ -4,10 +4,11 @@ use rules::Answer;
 ghost use mathlib.Core.Path.{_≡_};
 ghost use mathlib.Core.Bool.{true, false};
 ghost use Prim.Native.Nat.{ℕ, _+_, _*_, _-_, _^_, _/_, _<_, _≤_, min, max};
-ghost use lib.ListN.{length, getD, drop};
+ghost use lib.ListN.{length, getD, take, drop};
 ghost use Rattle.rules.specs.Sum.{sumTo};
 ghost use Rattle.walker.specs.Served.{servedTo, unitsOf, Spans};
 ghost use Rattle.walker.specs.Least.{LeastAt, Reached, FinishBy};
+ghost use Rattle.walker.specs.Gathered.{FrameOf, Gathered};
 ghost use Rattle.walker.specs.Step.{Ready, UnitEnd, Counted, StepReady, Stepped};
 
 // "the later of its release and the previous job's finish"
@@ -107,4 +108,31 @@ impl Clock {
             at: reach(frame, starts, lens, total, before + units as u64),
         }
     }
+}
+
+// The walked task's pieces by start, once a walk. Places beyond them keep what they held.
+pub(crate) fn gather(
+    frame: u32,
+    table: &[u32],
+    task: u32,
+    starts: &mut [u32],
+    lens: &mut [u32],
+) -> usize
+    requires { ⌜ FrameOf frame (now table) × (length (now starts) ≡ 95) × (length (now lens) ≡ 95) ⌝ }
+    ensures { λ r. ⌜ (r ≤ 95) × Gathered frame (now (table .entry)) task (take r (now (starts .exit))) (take r (now (lens .exit))) ⌝ }
+{
+    let n = table.len() / 4;
+    let mut count: usize = 0;
+    let mut from: u32 = 0;
+    let mut k = table::next_piece(table, task, from);
+    while k < n {
+        let start = table[4 * k + 2];
+        let len = table[4 * k + 3];
+        starts[count] = start;
+        lens[count] = len;
+        count += 1;
+        from = start + len;
+        k = table::next_piece(table, task, from);
+    }
+    count
 }

@@ -4,3 +4,6 @@ pub mod Loops
 pub mod Finish
 pub mod Covered
 pub mod Gathering
+pub mod Jobs
+pub mod Steps
+pub mod Walking

@@ -2,3 +2,4 @@ pub mod Served
 pub mod Least
 pub mod Step
 pub mod Gathered
+pub mod Jobs

@@ -7,3 +7,8 @@ pub mod Gathering
 pub mod Jobs
 pub mod Steps
 pub mod Walking
+pub mod Unique
+pub mod Bound
+pub mod Accepted
+pub mod Examples
+pub mod Isolation

@@ -1,9 +1,9 @@
--- `walker::reach` meets its contract: each need is answered by a law of the crate's proofs.
+-- `walker::service::reach` meets its contract: each need is answered by a law of the crate's proofs.
 -- Assumes nothing.
 use Rattle.walker.proofs.Finish.{product-fits, product-below, last-some, last-within, reach-least, reach-fits, frames-fit}
 use borrow.Author.Needs.{needs}
-use Rattle.walker.proofs.reach.Statement.{statement}
-use Rattle.walker.proofs.reach.Tie as tie
+use Rattle.walker.proofs.service.reach.Statement.{statement}
+use Rattle.walker.proofs.service.reach.Tie as tie
 
 sub-whole : tie.Need-sub-whole
 sub-whole c = search needs

@@ -1,11 +1,11 @@
--- `walker::served` meets its contract: each need is answered by a law of the crate's proofs.
+-- `walker::service::served` meets its contract: each need is answered by a law of the crate's proofs.
 -- Assumes nothing.
 use Prim.Native.Nat.{_-_}
 use lib.ListN.{length}
 use Rattle.walker.proofs.Loops.{Serving, serving-none, serving-fits, serving-more, serving-done}
 use borrow.Author.Needs.{needs}
-use Rattle.walker.proofs.served.Statement.{statement}
-use Rattle.walker.proofs.served.Tie as tie
+use Rattle.walker.proofs.service.served.Statement.{statement}
+use Rattle.walker.proofs.service.served.Tie as tie
 
 abbrev Inv-loop : tie.InvT-loop
 Inv-loop starts lens r sum₀ i₀ sum i = Serving starts lens r sum i

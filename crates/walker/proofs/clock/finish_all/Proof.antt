@@ -1,11 +1,11 @@
--- `walker::finish_all` meets its contract: each need is answered by a law of the crate's proofs.
+-- `walker::clock::finish_all` meets its contract: each need is answered by a law of the crate's proofs.
 -- Assumes nothing.
 use Prim.Native.Nat.{_-_}
 use lib.ListN.{length}
 use Rattle.walker.proofs.Steps.{Finishing, finishing-none, finishing-ready, finishing-room, finishing-more, finishing-done, finishing-size}
 use borrow.Author.Needs.{needs}
-use Rattle.walker.proofs.finish_all.Statement.{statement}
-use Rattle.walker.proofs.finish_all.Tie as tie
+use Rattle.walker.proofs.clock.finish_all.Statement.{statement}
+use Rattle.walker.proofs.clock.finish_all.Tie as tie
 
 abbrev Inv-loop : tie.InvT-loop
 Inv-loop frame starts lens total releases units finishes₀ clock₀ k₀ finishes clock k = Finishing frame starts lens releases units finishes₀ finishes (clock .at) k

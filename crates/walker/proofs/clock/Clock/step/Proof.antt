@@ -1,7 +1,7 @@
 use Rattle.walker.proofs.Finish.{step-nothing, step-total, goal-fits, goal-some, goal-reached, step-job}
 use borrow.Author.Needs.{needs}
-use Rattle.walker.proofs.Clock.step.Statement.{statement}
-use Rattle.walker.proofs.Clock.step.Tie as tie
+use Rattle.walker.proofs.clock.Clock.step.Statement.{statement}
+use Rattle.walker.proofs.clock.Clock.step.Tie as tie
 
 later-requires : tie.Need-later-requires
 later-requires c κs = search needs

@@ -1,9 +1,9 @@
--- `walker::units_before` meets its contract: each need is answered by a law of the crate's proofs.
+-- `walker::service::units_before` meets its contract: each need is answered by a law of the crate's proofs.
 -- Assumes nothing.
 use Rattle.walker.proofs.Finish.{whole-fits, units-fits, units-are, rest-fits}
 use borrow.Author.Needs.{needs}
-use Rattle.walker.proofs.units_before.Statement.{statement}
-use Rattle.walker.proofs.units_before.Tie as tie
+use Rattle.walker.proofs.service.units_before.Statement.{statement}
+use Rattle.walker.proofs.service.units_before.Tie as tie
 
 div-whole : tie.Need-div-whole
 div-whole c = search needs

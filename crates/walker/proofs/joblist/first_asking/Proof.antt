@@ -1,11 +1,11 @@
--- `walker::first_asking` meets its contract: each need is answered by a law of the crate's proofs.
+-- `walker::joblist::first_asking` meets its contract: each need is answered by a law of the crate's proofs.
 -- Assumes nothing.
 use Prim.Native.Nat.{_≤_, _-_}
 use lib.ListN.{length}
 use Rattle.walker.proofs.Jobs.{Idle, idle-none, idle-more, idle-asks, idle-all}
 use borrow.Author.Needs.{needs}
-use Rattle.walker.proofs.first_asking.Statement.{statement}
-use Rattle.walker.proofs.first_asking.Tie as tie
+use Rattle.walker.proofs.joblist.first_asking.Statement.{statement}
+use Rattle.walker.proofs.joblist.first_asking.Tie as tie
 
 abbrev Inv-loop : tie.InvT-loop
 Inv-loop units k₀ k = (k ≤ length units) × Idle units k

@@ -1,11 +1,11 @@
--- `walker::first_bad_job` meets its contract: each need is answered by a law of the crate's proofs.
+-- `walker::joblist::first_bad_job` meets its contract: each need is answered by a law of the crate's proofs.
 -- Assumes nothing.
 use Prim.Native.Nat.{_≤_, _-_}
 use lib.ListN.{length}
 use Rattle.walker.proofs.Jobs.{Passed, passed-none, passed-more, passed-fault, passed-all}
 use borrow.Author.Needs.{needs}
-use Rattle.walker.proofs.first_bad_job.Statement.{statement}
-use Rattle.walker.proofs.first_bad_job.Tie as tie
+use Rattle.walker.proofs.joblist.first_bad_job.Statement.{statement}
+use Rattle.walker.proofs.joblist.first_bad_job.Tie as tie
 
 abbrev Inv-loop : tie.InvT-loop
 Inv-loop releases units k₀ k = (k ≤ length releases) × Passed releases units k

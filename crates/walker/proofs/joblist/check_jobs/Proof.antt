@@ -1,9 +1,9 @@
--- `walker::check_jobs` meets its contract: each need is answered by a law of the crate's proofs.
+-- `walker::joblist::check_jobs` meets its contract: each need is answered by a law of the crate's proofs.
 -- Assumes nothing.
 use Rattle.walker.proofs.Jobs.{jobs-differ, jobs-many, jobs-fault, jobs-pass}
 use borrow.Author.Needs.{needs}
-use Rattle.walker.proofs.check_jobs.Statement.{statement}
-use Rattle.walker.proofs.check_jobs.Tie as tie
+use Rattle.walker.proofs.joblist.check_jobs.Statement.{statement}
+use Rattle.walker.proofs.joblist.check_jobs.Tie as tie
 
 returns : tie.Need-returns
 returns c = search (jobs-differ, needs)

@@ -1,11 +1,11 @@
--- `walker::gather` meets its contract: each need is answered by a law of the crate's proofs.
+-- `walker::service::gather` meets its contract: each need is answered by a law of the crate's proofs.
 -- Assumes nothing.
 use Prim.Native.Nat.{_-_}
 use native.Mathlib.Omega.{arith}
 use Rattle.walker.proofs.Gathering.{Gathering, gathering-none, gathering-room, gathering-room′, gathering-fits, gathering-less, gathering-more, gathering-done}
 use borrow.Author.Needs.{needs}
-use Rattle.walker.proofs.gather.Statement.{statement}
-use Rattle.walker.proofs.gather.Tie as tie
+use Rattle.walker.proofs.service.gather.Statement.{statement}
+use Rattle.walker.proofs.service.gather.Tie as tie
 
 abbrev Inv-loop : tie.InvT-loop
 Inv-loop frame table task starts₀ lens₀ n count₀ from₀ k₀ starts lens count from k = Gathering frame table task starts lens count from k

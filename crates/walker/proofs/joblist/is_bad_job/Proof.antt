@@ -1,9 +1,9 @@
--- `walker::is_bad_job` meets its contract: each need is answered by a law of the crate's proofs.
+-- `walker::joblist::is_bad_job` meets its contract: each need is answered by a law of the crate's proofs.
 -- Assumes nothing.
 use Rattle.walker.proofs.Jobs.{bad-release, bad-units, bad-first, bad-early}
 use borrow.Author.Needs.{needs}
-use Rattle.walker.proofs.is_bad_job.Statement.{statement}
-use Rattle.walker.proofs.is_bad_job.Tie as tie
+use Rattle.walker.proofs.joblist.is_bad_job.Statement.{statement}
+use Rattle.walker.proofs.joblist.is_bad_job.Tie as tie
 
 mul-release : tie.Need-mul-release
 mul-release c = search needs

@@ -7,10 +7,11 @@ use native.Mathlib.Nat.{le-refl, le-trans, mod-lt, div-add-mod', div-mul-le-self
 use native.Mathlib.Decide.{ℕ-discrete, decLt, decLe}
 use native.Mathlib.Omega.{arith}
 use lib.ListN.{length, getD}
-use Rattle.walker.specs.Served.{servedTo, unitsOf, Spans}
+use Rattle.rules.specs.Sum.{sumTo}
+use Rattle.walker.specs.Served.{unitTo, servedTo, unitsOf, Spans}
 use Rattle.walker.specs.Least.{LeastAt, Reached, FinishBy}
-use Rattle.walker.specs.Step.{Ready, UnitEnd, Counted, StepReady, Stepped}
-use Rattle.walker.proofs.Units.{units-mono, units-le, total-le, units-at, units-div, units-later}
+use Rattle.walker.specs.Step.{Ready, UnitAt, Counted, StepReady, Stepped}
+use Rattle.walker.proofs.Units.{served-sum, units-mono, units-le, total-le, units-at, units-div, units-later}
 
 module _ (F : ℕ) (starts lens : List ℕ) (total : ℕ) (counted : Counted F starts lens total) where
   W : ℕ → ℕ
@@ -41,42 +42,57 @@ module _ (F : ℕ) (starts lens : List ℕ) (total : ℕ) (counted : Counted F s
     divided : (goal - 1) / total * total + (goal - 1) % total ≡ goal - 1
     divided = div-add-mod' (goal - 1) total
 
-    pub product-fits : goal < 2 ^ 64 → (goal - 1) / total * total < 2 ^ 64
-    product-fits h = omega (arith, divided)
+    pub last-within : (goal - 1) % total < servedTo starts lens (length starts) F
+    last-within = omega (arith, mod-lt (goal - 1) some, counted .is)
 
-    pub product-below : (goal - 1) / total * total ≤ goal
-    product-below = omega (arith, divided)
+    module _ (r : ℕ) (at : UnitAt F starts lens ((goal - 1) % total) r) where
+      here : unitsOf F starts lens ((goal - 1) / total * F + (r + 1)) ≡ goal
+      here =
+          units-at starts lens F spans pos ((goal - 1) / total) (r + 1) (omega (arith, at .within))
+          ∙ rw (← counted .is, at .next) (omega (arith, divided))
 
-    pub last-some : 1 ≤ goal - (goal - 1) / total * total
-    last-some = omega (arith, divided)
-
-    pub last-within : goal - (goal - 1) / total * total ≤ servedTo starts lens (length starts) F
-    last-within = omega (arith, divided, mod-lt (goal - 1) some, counted .is)
-
-    module _ (r : ℕ) (end : UnitEnd F starts lens (goal - (goal - 1) / total * total) r) where
-      here : unitsOf F starts lens ((goal - 1) / total * F + r) ≡ goal
-      here = units-at starts lens F spans pos ((goal - 1) / total) r (end .within) ∙ rw (← counted .is, end .here) (omega (arith, divided))
-
-      before : unitsOf F starts lens ((goal - 1) / total * F + (r - 1)) + 1 ≡ goal
+      before : unitsOf F starts lens ((goal - 1) / total * F + r) + 1 ≡ goal
       before =
-          rw (units-at starts lens F spans pos ((goal - 1) / total) (r - 1) (omega (arith, end .within)), ← counted .is)
-          (omega (arith, divided, end .before))
+          rw (units-at starts lens F spans pos ((goal - 1) / total) r (omega (arith, at .within)), ← counted .is, at .here)
+          (omega (arith, divided))
 
-      pub reach-least : LeastAt (unitsOf F starts lens) goal ((goal - 1) / total * F + r)
+      together : (goal - 1) / total * F + r + 1 ≡ (goal - 1) / total * F + (r + 1)
+      together = omega arith
+
+      pub reach-least : LeastAt (unitsOf F starts lens) goal ((goal - 1) / total * F + r + 1)
       reach-least =
-          record {
+          rw together
+          (record {
             enough = omega (arith, here);
-            least = λ d h. elim (decLe ((goal - 1) / total * F + r) d) [ yes l ↦ l | no l ↦ absurd (sooner d h (omega arith)) ];
-          }
+            least = λ d h. elim (decLe ((goal - 1) / total * F + (r + 1)) d) [ yes l ↦ l | no l ↦ absurd (sooner d h (omega arith)) ];
+          })
         where
-          sooner : (d : ℕ) → goal ≤ unitsOf F starts lens d → d < (goal - 1) / total * F + r → ⊥
-          sooner d h l = omega (arith, before, end .some, units-mono starts lens F spans pos d ((goal - 1) / total * F + (r - 1)) (omega (arith, end .some)))
+          sooner : (d : ℕ) → goal ≤ unitsOf F starts lens d → d < (goal - 1) / total * F + (r + 1) → ⊥
+          sooner d h l = omega (arith, before, units-mono starts lens F spans pos d ((goal - 1) / total * F + r) (omega arith))
 
-      pub reach-fits : Reached (unitsOf F starts lens) goal → (goal - 1) / total * F + r < 2 ^ 64
+      pub reach-fits : Reached (unitsOf F starts lens) goal → (goal - 1) / total * F + r + 1 < 2 ^ 64
       reach-fits a = omega (arith, reach-least .least (a .by) (a .there), a .small)
 
-      pub frames-fit : Reached (unitsOf F starts lens) goal → (goal - 1) / total * F < 2 ^ 64
-      frames-fit a = omega (arith, reach-fits a)
+      pub unit-fits : Reached (unitsOf F starts lens) goal → (goal - 1) / total * F + r < 2 ^ 64
+      unit-fits a = omega (arith, reach-fits a)
+
+    -- the whole frames alone fit too: their units are below the goal
+    pub frames-fit : Reached (unitsOf F starts lens) goal → (goal - 1) / total * F < 2 ^ 64
+    unfolding sumTo
+    frames-fit a =
+        elim (decLe ((goal - 1) / total * F) (a .by)) [ yes h ↦ omega (arith, a .small) | no h ↦ absurd (beyond (omega arith)) ]
+      where
+        full : unitsOf F starts lens ((goal - 1) / total * F + 0) ≡ (goal - 1) / total * total + servedTo starts lens (length starts) 0
+        full = units-at starts lens F spans pos ((goal - 1) / total) 0 (omega arith) ∙ rw (← counted .is)
+
+        beyond : a .by < (goal - 1) / total * F → ⊥
+        beyond h = omega (arith, full, none, divided, a .there, units-mono starts lens F spans pos (a .by) ((goal - 1) / total * F + 0) (omega arith))
+          where
+            none : servedTo starts lens (length starts) 0 ≡ 0
+            none = rw (← served-sum starts lens (length starts) 0) (nothing (unitTo starts lens (length starts)))
+              where
+                nothing : (f : ℕ → ℕ) → sumTo 0 f ≡ 0
+                nothing f = refl
 
 module _ (F : ℕ) (starts lens : List ℕ) (total begin job : ℕ) (ready : StepReady F starts lens total begin job) where
   stretches : Spans F starts lens

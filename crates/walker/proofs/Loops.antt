@@ -11,7 +11,7 @@ use lib.ListN.{length, getD}
 use Rattle.rules.specs.Sum.{sumTo}
 use Rattle.sums.proofs.Sum.{sum-mono}
 use Rattle.walker.specs.Served.{servedTo, Spans}
-use Rattle.walker.specs.Step.{Ready, UnitEnd}
+use Rattle.walker.specs.Step.{Ready, UnitAt}
 use Rattle.walker.proofs.Units.{startAt, lenAt, served-at, served-total}
 
 module _ (starts lens : List ℕ) (r : ℕ) where
@@ -40,44 +40,44 @@ module _ (starts lens : List ℕ) (r : ℕ) where
       same p q = omega arith
 
 module _ (F : ℕ) (starts lens : List ℕ) (k : ℕ) where
-  -- the k-th unit is the `left`-th from stretch i on
+  -- unit k is the `left`-th from stretch i on, both counted from 0
   pub record Seeking (i left : ℕ) : Type 0 where
     pub inside : i < length starts
-    pub some : 1 ≤ left
     pub rest : left + sumTo i (lenAt starts lens) ≡ k
 
-  module _ (ready : Ready F starts lens) (most : k ≤ servedTo starts lens (length starts) F) where
-    all : k ≤ sumTo (length starts) (lenAt starts lens)
+  module _ (ready : Ready F starts lens) (most : k < servedTo starts lens (length starts) F) where
+    all : k < sumTo (length starts) (lenAt starts lens)
     all = rw (served-total starts lens F (ready .spans)) at most
 
-    here : (i left : ℕ) → i ≤ length starts → 1 ≤ left → left + sumTo i (lenAt starts lens) ≡ k → i < length starts
-    here i left h s e =
-        elim (decLt i (length starts)) [ yes l ↦ l | no l ↦ absurd (past (sum-mono (length starts) i (lenAt starts lens) (omega arith)) all s e) ]
+    here : (i left : ℕ) → left + sumTo i (lenAt starts lens) ≡ k → i < length starts
+    here i left e =
+        elim (decLt i (length starts)) [ yes l ↦ l | no l ↦ absurd (past (sum-mono (length starts) i (lenAt starts lens) (omega arith)) all e) ]
       where
-        past : {a b : ℕ} → a ≤ b → k ≤ a → 1 ≤ left → left + b ≡ k → ⊥
-        past p q s e = omega arith
+        past : {a b : ℕ} → a ≤ b → k < a → left + b ≡ k → ⊥
+        past p q e = omega arith
 
-    pub seeking-none : 1 ≤ k → Seeking 0 k
+    pub seeking-none : Seeking 0 k
     unfolding sumTo
-    seeking-none h = record { inside = here 0 k (omega arith) h (omega arith); some = h; rest = omega arith }
+    seeking-none = record { inside = here 0 k (omega arith); rest = omega arith }
 
-    pub seeking-more : (i left : ℕ) → Seeking i left → getD lens i 0 < left → Seeking (i + 1) (left - getD lens i 0)
+    pub seeking-more : (i left : ℕ) → Seeking i left → getD lens i 0 ≤ left → Seeking (i + 1) (left - getD lens i 0)
     unfolding sumTo
-    seeking-more i left s h = record { inside = here (i + 1) (left - getD lens i 0) (omega (arith, s .inside)) (omega arith) next; some = omega arith; rest = next }
+    seeking-more i left s h = record { inside = here (i + 1) (left - getD lens i 0) next; rest = next }
       where
         next : (left - getD lens i 0) + sumTo (i + 1) (lenAt starts lens) ≡ k
         next = rw (add-one i) (omega (arith, s .rest))
 
-    pub seeking-done : (i left : ℕ) → Seeking i left → left ≤ getD lens i 0 → UnitEnd F starts lens k (getD starts i 0 + left)
+    pub seeking-done : (i left : ℕ) → Seeking i left → left < getD lens i 0 → UnitAt F starts lens k (getD starts i 0 + left)
     seeking-done i left s h =
         record {
-          some = omega (arith, s .some);
           within = omega (arith, ready .spans .ends i (s .inside));
           here = served-at starts lens F (ready .spans) i (getD starts i 0 + left) (s .inside) (omega arith) (omega arith) ∙ omega (arith, s .rest);
-          before = ap (λ (n : ℕ). n + 1) (served-at starts lens F (ready .spans) i (getD starts i 0 + left - 1) (s .inside) (omega (arith, s .some)) (omega arith)) ∙ omega (arith, s .rest, s .some);
+          next =
+              served-at starts lens F (ready .spans) i (getD starts i 0 + left + 1) (s .inside) (omega arith) (omega arith)
+              ∙ omega (arith, s .rest);
         }
 
-    pub seeking-fits : (i left : ℕ) → Seeking i left → left ≤ getD lens i 0 → getD starts i 0 + left < 2 ^ 64
+    pub seeking-fits : (i left : ℕ) → Seeking i left → left < getD lens i 0 → getD starts i 0 + left < 2 ^ 64
     seeking-fits i left s h = omega (arith, ready .spans .ends i (s .inside), ready .short)
 
   pub seeking-falls : (i left : ℕ) → Seeking i left → length starts - (i + 1) < length starts - i

@@ -14,12 +14,11 @@ pub record Ready (F : ℕ) (starts lens : List ℕ) : Type 0 where
   pub short : F ≤ 1000000
   pub spans : Spans F starts lens
 
--- r is where the k-th unit of the frame ends: k units before r, and one fewer before the instant before r
-pub record UnitEnd (F : ℕ) (starts lens : List ℕ) (k r : ℕ) : Type 0 where
-  pub some : 1 ≤ r
-  pub within : r ≤ F
+-- r is the frame's unit k: k units before r, and one more with it
+pub record UnitAt (F : ℕ) (starts lens : List ℕ) (k r : ℕ) : Type 0 where
+  pub within : r < F
   pub here : servedTo starts lens (length starts) r ≡ k
-  pub before : servedTo starts lens (length starts) (r - 1) + 1 ≡ k
+  pub next : servedTo starts lens (length starts) (r + 1) ≡ k + 1
 
 -- the units of one frame beside it
 pub record Counted (F : ℕ) (starts lens : List ℕ) (total : ℕ) : Type 0 where

@@ -5,7 +5,7 @@ ghost use lib.ListN.{length, take};
 ghost use Rattle.walker.specs.Served.{servedTo, unitsOf};
 ghost use Rattle.walker.specs.Least.{LeastAt, Reached};
 ghost use Rattle.walker.specs.Gathered.{FrameOf, Gathered};
-ghost use Rattle.walker.specs.Step.{Ready, UnitEnd, Counted};
+ghost use Rattle.walker.specs.Step.{Ready, UnitAt, Counted};
 
 // "the later of its release and the previous job's finish"
 pub(crate) fn later(a: u64, b: u64) -> u64
@@ -42,14 +42,14 @@ pub(crate) fn served(starts: &[u32], lens: &[u32], r: u32) -> u64
     sum
 }
 
-// The instant of the frame at which the task's k-th unit ends.
-pub(crate) fn unit_end(frame: u32, starts: &[u32], lens: &[u32], k: u64) -> u64
-    requires { ⌜ Ready frame (now starts) (now lens) × (1 ≤ k) × (k ≤ servedTo (now starts) (now lens) (length (now starts)) frame) ⌝ }
-    ensures { λ r. ⌜ UnitEnd frame (now (starts .entry)) (now (lens .entry)) k r ⌝ }
+// The instant of the frame that is the task's unit k, counted from 0.
+pub(crate) fn unit_at(frame: u32, starts: &[u32], lens: &[u32], k: u64) -> u64
+    requires { ⌜ Ready frame (now starts) (now lens) × (k < servedTo (now starts) (now lens) (length (now starts)) frame) ⌝ }
+    ensures { λ r. ⌜ UnitAt frame (now (starts .entry)) (now (lens .entry)) k r ⌝ }
 {
     let mut i: usize = 0;
     let mut left = k;
-    while (lens[i] as u64) < left {
+    while (lens[i] as u64) <= left {
         left -= lens[i] as u64;
         i += 1;
     }
@@ -66,14 +66,14 @@ pub(crate) fn units_before(frame: u32, starts: &[u32], lens: &[u32], total: u64,
     whole * total + served(starts, lens, (e % f) as u32)
 }
 
-// The least instant before which the task has `goal` units: whole frames, and the last unit in the frame after them.
+// The least instant before which the task has `goal` units: the end of the last of them, after whole frames.
 pub(crate) fn reach(frame: u32, starts: &[u32], lens: &[u32], total: u64, goal: u64) -> u64
     requires { ⌜ Counted frame (now starts) (now lens) total × (1 ≤ total) × (1 ≤ goal) × Reached (unitsOf frame (now starts) (now lens)) goal ⌝ }
     ensures { λ r. ⌜ LeastAt (unitsOf frame (now (starts .entry)) (now (lens .entry))) goal r ⌝ }
 {
-    let whole = (goal - 1) / total;
-    let end = unit_end(frame, starts, lens, goal - whole * total);
-    whole * frame as u64 + end
+    let last = goal - 1;
+    let whole = last / total;
+    whole * frame as u64 + unit_at(frame, starts, lens, last % total) + 1
 }
 
 // The walked task's pieces by start, once a walk. Places beyond them keep what they held.

@@ -1,3 +1,5 @@
+-- `walker::clock::Clock::step` meets its contract: each need is answered by a law of the crate's proofs.
+-- Assumes nothing.
 use Rattle.walker.proofs.Finish.{step-nothing, step-total, goal-fits, goal-some, goal-reached, step-job}
 use borrow.Author.Needs.{needs}
 use Rattle.walker.proofs.clock.Clock.step.Statement.{statement}

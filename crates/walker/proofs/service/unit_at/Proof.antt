@@ -1,12 +1,12 @@
--- `walker::service::unit_end` meets its contract: each need is answered by a law of the crate's proofs.
+-- `walker::service::unit_at` meets its contract: each need is answered by a law of the crate's proofs.
 -- Assumes nothing.
 use Prim.Native.Nat.{_-_}
 use native.Mathlib.Omega.{arith}
 use lib.ListN.{length}
 use Rattle.walker.proofs.Loops.{Seeking, seeking-none, seeking-more, seeking-done, seeking-fits, seeking-falls}
 use borrow.Author.Needs.{needs}
-use Rattle.walker.proofs.service.unit_end.Statement.{statement}
-use Rattle.walker.proofs.service.unit_end.Tie as tie
+use Rattle.walker.proofs.service.unit_at.Statement.{statement}
+use Rattle.walker.proofs.service.unit_at.Tie as tie
 
 abbrev Inv-loop : tie.InvT-loop
 Inv-loop frame starts lens k i₀ left₀ i left = Seeking frame starts lens k i left
@@ -62,8 +62,8 @@ add-result c = record { fits = search (seeking-fits, needs) }
 returns : tie.Need-returns Inv-loop μ-loop
 returns c = search (seeking-done, needs)
 
-pub unit-end-spec : {M : Type 1} → statement M
-unit-end-spec =
+pub unit-at-spec : {M : Type 1} → statement M
+unit-at-spec =
     tie.close
     (tie.spec
     Inv-loop

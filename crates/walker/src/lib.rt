@@ -1,5 +1,5 @@
-// The job walker: "The table repeats from instant 0." Each job's finish is found by one pass over the task's own pieces,
-// however far away it lies.
+// The job walker: "The table repeats from instant 0." A job costs two passes at most over the walked task's own pieces,
+// however far away its finish lies: one for the units before its begin, one for the last unit that it asks.
 mod clock;
 mod joblist;
 mod service;

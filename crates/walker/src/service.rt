@@ -76,7 +76,7 @@ pub(crate) fn reach(frame: u32, starts: &[u32], lens: &[u32], total: u64, goal: 
     whole * frame as u64 + unit_at(frame, starts, lens, last % total) + 1
 }
 
-// The walked task's pieces by start, once a walk. Places beyond them keep what they held.
+// The walked task's pieces by start, once a walk: where each starts and how long it is, at the front of the two lists.
 pub(crate) fn gather(
     frame: u32,
     table: &[u32],

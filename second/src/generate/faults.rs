@@ -1,0 +1,66 @@
+//! Faults put into a set so that it is refused with 1 to 5.
+
+use crate::random::Random;
+use crate::set::{Set, Task, MOST_CORES, MOST_FRAME, MOST_TASKS};
+
+const WORD: u64 = u32::MAX as u64;
+
+/// One to three faults, so that the order of the tests is met too.
+pub fn add(random: &mut Random, set: &mut Set) {
+    for _ in 0..random.between(1, 3) {
+        match random.below(8) {
+            0 => set.frame = random.pick(&[0, MOST_FRAME + 1, WORD]),
+            1 => set.cores = random.pick(&[0, MOST_CORES + 1, 255]),
+            2 => too_many(random, set),
+            3..=5 => bad_mask(random, set),
+            _ => high_budget(random, set),
+        }
+    }
+}
+
+fn too_many(random: &mut Random, set: &mut Set) {
+    let least = MOST_TASKS as u64 + 1;
+    let wanted = if random.one_in(2) { least } else { random.between(least, 255) };
+    while set.tasks.len() < wanted as usize {
+        let budget = random.below(set.frame + 1);
+        set.tasks.push(Task { budget, mask: random.below(1 << 16) as u16 });
+    }
+}
+
+fn bad_mask(random: &mut Random, set: &mut Set) {
+    if set.tasks.is_empty() {
+        return;
+    }
+    let task = random.place(set.tasks.len());
+    let mask = &mut set.tasks[task].mask;
+    *mask = match random.below(3) {
+        0 => 0,
+        1 if set.cores < MOST_CORES => *mask | 1 << set.cores,
+        1 => 0,
+        _ => *mask | 1 << random.below(16),
+    };
+}
+
+fn high_budget(random: &mut Random, set: &mut Set) {
+    if set.tasks.is_empty() {
+        return;
+    }
+    let task = random.place(set.tasks.len());
+    let above = (set.frame + 1).min(WORD);
+    set.tasks[task].budget = random.pick(&[above, above, MOST_FRAME + 1, WORD]);
+}
+
+/// Sizes at the edges that are still allowed.
+pub fn edge(random: &mut Random, set: &mut Set) {
+    match random.below(5) {
+        0 => set.frame = MOST_FRAME,
+        1 => set.cores = MOST_CORES,
+        2 => set.tasks.clear(),
+        3 => set.tasks.iter_mut().for_each(|task| task.budget = 0),
+        _ => {
+            while set.tasks.len() < MOST_TASKS {
+                set.tasks.push(Task { budget: 0, mask: 1 });
+            }
+        }
+    }
+}

@@ -1,0 +1,127 @@
+// What a line lends to its call, and the call's answer line.
+use crate::answers::put_answer;
+use crate::answers::put_bad_line;
+use crate::digits::all_digits;
+use crate::fields::count_at;
+use crate::fields::number_at;
+use crate::fields::read_releases;
+use crate::fields::read_words;
+use crate::fields::word_at;
+use rules::Answer;
+ghost use mathlib.Core.Path.{_≡_};
+ghost use Prim.Native.Nat.{_+_, _*_, _≤_, _<_};
+ghost use lib.ListN.{length};
+
+// The table check: "call (1), F (4 bytes), m (4), then the table's words".
+fn check(line: &[u8], out: &mut [u8]) -> usize
+    requires { ⌜ (18 ≤ length (now line)) × (length (now line) ≤ 99002) × (99003 ≤ length (now out)) ⌝ }
+    ensures { λ r. ⌜ r ≤ 99002 ⌝ }
+{
+    let count = (line.len() - 18) / 8;
+    let mut words = [0u32; 12373];
+    read_words(line, 18, count, &mut words);
+    let answer = table::check_table(word_at(line, 2), word_at(line, 10), &words[..count]);
+    put_answer(out, answer, &[0], 0, 1)
+}
+
+// The move count, with the same fields.
+fn count_moves(line: &[u8], out: &mut [u8]) -> usize
+    requires { ⌜ (18 ≤ length (now line)) × (length (now line) ≤ 99002) × (99003 ≤ length (now out)) ⌝ }
+    ensures { λ r. ⌜ r ≤ 99002 ⌝ }
+{
+    let count = (line.len() - 18) / 8;
+    let mut words = [0u32; 12373];
+    read_words(line, 18, count, &mut words);
+    let counted = table::count_moves(word_at(line, 2), word_at(line, 10), &words[..count]);
+    let answer = counted.answer;
+    put_answer(out, answer, &[counted.moves as u64], 1, 4)
+}
+
+// How many words, releases, units and finish places a walk is lent.
+struct Counts {
+    words: usize,
+    releases: usize,
+    units: usize,
+    room: usize,
+}
+
+// The walk of a line whose counts say its length.
+fn walk_lists(line: &[u8], c: Counts, finishes: &mut [u64]) -> Answer
+    requires { ⌜ (42 + 8 * c .words + 16 * c .releases + 8 * c .units ≡ length (now line)) × (length (now line) ≤ 99002) × (c .room ≤ length (now finishes)) ⌝ }
+{
+    let n = c.words;
+    let jobs = c.releases;
+    let asked = c.units;
+    let room = c.room;
+    let mut words = [0u32; 12370];
+    let mut releases = [0u64; 6185];
+    let mut units = [0u32; 12370];
+    read_words(line, 42, n, &mut words);
+    read_releases(line, 42 + 8 * n, jobs, &mut releases);
+    read_words(line, 42 + 8 * n + 16 * jobs, asked, &mut units);
+    walker::walk(
+        word_at(line, 2),
+        word_at(line, 10),
+        &words[..n],
+        word_at(line, 18),
+        &releases[..jobs],
+        &units[..asked],
+        &mut finishes[..room],
+    )
+}
+
+// The walk: "task (4), word count (2), release count (2), unit count (2), finish room (2)" follow F and m.
+fn walk(line: &[u8], out: &mut [u8]) -> usize
+    requires { ⌜ (length (now line) ≤ 99002) × (99003 ≤ length (now out)) ⌝ }
+    ensures { λ r. ⌜ r ≤ 99002 ⌝ }
+{
+    if line.len() < 42 {
+        return put_bad_line(out);
+    }
+    let words = count_at(line, 26);
+    let releases = count_at(line, 30);
+    let units = count_at(line, 34);
+    let room = count_at(line, 38);
+    if 42 + 8 * words + 16 * releases + 8 * units != line.len() {
+        return put_bad_line(out);
+    }
+    let mut finishes = [0u64; 65535];
+    let answer = walk_lists(
+        line,
+        Counts {
+            words,
+            releases,
+            units,
+            room,
+        },
+        &mut finishes,
+    );
+    put_answer(out, answer, &finishes, releases, 8)
+}
+
+// The answer of one line, without its line feed. Every call's line has a byte and whole words of 8 digits, and two words at least.
+pub(crate) fn answer_line(line: &[u8], out: &mut [u8]) -> usize
+    requires { ⌜ 99003 ≤ length (now out) ⌝ }
+    ensures { λ r. ⌜ r ≤ 99002 ⌝ }
+{
+    let n = line.len();
+    if 99002 < n {
+        return put_bad_line(out);
+    }
+    if n < 18 {
+        return put_bad_line(out);
+    }
+    if n % 8 != 2 {
+        return put_bad_line(out);
+    }
+    if !all_digits(line) {
+        return put_bad_line(out);
+    }
+    let call = number_at(line, 0, 2);
+    match call {
+        1 => check(line, out),
+        2 => count_moves(line, out),
+        3 => walk(line, out),
+        _ => put_bad_line(out),
+    }
+}

@@ -1,7 +1,8 @@
 # make run: prove, build and show the answers. make test: the gate, whose last line is 'N passed, 0 failed'.
+# make compare: random lines through the compiled programs and the second program; SEED=.. and COUNT=.. may be given.
 KIT := rattle-kit-5b logic 064da1ca440f63e7
 
-.PHONY: run test kit
+.PHONY: run test compare kit
 
 kit:
 	@command -v rt >/dev/null || { echo "rt is missing: install the Rattle kit ($(KIT)) and put its bin/ on PATH"; exit 1; }
@@ -12,4 +13,8 @@ run: kit
 	@cat examples/settled.txt
 
 test: kit
+	@second/judge-stored
 	@rt ci
+
+compare:
+	@second/compare "$(COUNT)" "$(SEED)"

@@ -4,6 +4,7 @@
 pub mod accepted;
 pub mod allocation;
 pub mod answers;
+pub mod call_line;
 pub mod flow;
 pub mod generate;
 pub mod groups;

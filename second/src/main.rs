@@ -1,14 +1,14 @@
-//! `judge`: judges lines of the planner, the table check, the move count and
-//! the walker, and writes random input lines for them.
+//! `judge`: judges lines of the planner and of the other calls (table check,
+//! move count, walk), and writes random input lines for them.
 
 use second::generate::{self, Kind};
 use second::lines::{judge_all, Judge, Outcome, Unread};
-use second::{answers, table_line, walk_line};
+use second::{answers, call_line};
 use std::fs::File;
 use std::io::{self, BufReader, BufWriter};
 use std::process::ExitCode;
 
-const USAGE: &str = "use: judge plan|check|moves|walk INPUT OUTPUT, \
+const USAGE: &str = "use: judge plan|calls INPUT OUTPUT, \
                      or: judge generate plan|check|moves|walk COUNT SEED";
 
 /// Why the program ends with another number than 0.
@@ -41,20 +41,19 @@ fn run(words: &[&str]) -> Result<(), Failure> {
     match words {
         ["generate", kind, count, seed] => write_lines(kind, count, seed),
         ["generate", ..] => Err(Failure::Use(USAGE.to_string())),
-        [kind, input, output] => match Kind::named(kind) {
-            Some(kind) => judge_files(judge_of(kind), input, output),
-            None => Err(Failure::Use(format!("`{kind}` is not a known word; {USAGE}"))),
+        [program, input, output] => match judge_of(program) {
+            Some(judge) => judge_files(judge, input, output),
+            None => Err(Failure::Use(format!("`{program}` is not a known word; {USAGE}"))),
         },
         _ => Err(Failure::Use(USAGE.to_string())),
     }
 }
 
-fn judge_of(kind: Kind) -> Judge {
-    match kind {
-        Kind::Plan => answers::judge,
-        Kind::Check => |input, output| answers::same_line(&table_line::check(input), output),
-        Kind::Moves => |input, output| answers::same_line(&table_line::count(input), output),
-        Kind::Walk => |input, output| answers::same_line(&walk_line::finishes(input), output),
+fn judge_of(program: &str) -> Option<Judge> {
+    match program {
+        "plan" => Some(answers::judge),
+        "calls" => Some(|input, output| answers::same_line(&call_line::answer(input), output)),
+        _ => None,
     }
 }
 

@@ -1,13 +1,12 @@
-//! Lines of the job walker. In: F (4 bytes), m (4), task (4), then the counts
-//! of words, releases and units and the finish room (2 each), then the words
-//! (4 each), releases (8 each) and units (4 each). Out: the number (1); for 9
-//! and 10 the job (4); for 0 the finishes (8 each).
+//! Lines of the job walker. In, after the call: F (4 bytes), m (4), task (4),
+//! then the counts of words, releases and units and the finish room (2 each),
+//! then the words (4 each), releases (8 each) and units (4 each). Out: the
+//! number (1); for 9 and 10 the job (4); for 0 the finishes (8 each).
 
-use crate::hex::{decode, push, Fields};
+use crate::call_line::Call;
+use crate::hex::{push, Fields};
 use crate::jobs::{walk, Walked};
 use crate::table_line::lent_table;
-
-pub const MOST_DIGITS: usize = 40_000;
 
 /// One walk as a line lends it.
 #[derive(Clone, Debug)]
@@ -21,17 +20,16 @@ pub struct Walk {
     pub units: Vec<u64>,
 }
 
-/// The right answer of the walker: tests 1, 2, 8, 9, 10, 11.
-pub fn finishes(line: &[u8]) -> Vec<u8> {
-    let Some(lent) = read(line) else {
-        return b"0c".to_vec();
-    };
+/// The right answer of the walker: tests 1, 2, 8, 9, 10, 11. Nothing if the
+/// counts do not give the line's length.
+pub fn finishes(fields: Fields) -> Option<Vec<u8>> {
+    let lent = read(fields)?;
     let mut answer = Vec::new();
     let pieces = match lent_table(lent.frame, lent.cores, &lent.words) {
         Ok(pieces) => pieces,
         Err(number) => {
             push(&mut answer, number.into(), 1);
-            return answer;
+            return Some(answer);
         }
     };
     let jobs = (&lent.releases[..], &lent.units[..]);
@@ -44,7 +42,7 @@ pub fn finishes(line: &[u8]) -> Vec<u8> {
             finishes.iter().for_each(|&finish| push(&mut answer, finish, 8));
         }
     }
-    answer
+    Some(answer)
 }
 
 fn push_with_job(answer: &mut Vec<u8>, number: u64, job: usize) {
@@ -52,12 +50,7 @@ fn push_with_job(answer: &mut Vec<u8>, number: u64, job: usize) {
     push(answer, job as u64, 4);
 }
 
-fn read(line: &[u8]) -> Option<Walk> {
-    if line.len() > MOST_DIGITS {
-        return None;
-    }
-    let bytes = decode(line)?;
-    let mut fields = Fields::new(&bytes);
+fn read(mut fields: Fields) -> Option<Walk> {
     let frame = fields.number(4)?;
     let cores = fields.number(4)?;
     let task = fields.number(4)?;
@@ -74,7 +67,7 @@ fn read(line: &[u8]) -> Option<Walk> {
 
 /// Writes an input line of the walker.
 pub fn write(walk: &Walk) -> Vec<u8> {
-    let mut line = Vec::new();
+    let mut line = Call::Walk.begin();
     for number in [walk.frame, walk.cores, walk.task] {
         push(&mut line, number, 4);
     }

@@ -1,5 +1,6 @@
 //! Damage to a written line: most of it makes the line not well written.
 
+use crate::call_line;
 use crate::random::Random;
 
 /// Damages a line whose shortest form has `head` digits and whose longest
@@ -18,6 +19,16 @@ pub fn line(random: &mut Random, mut line: Vec<u8>, head: usize, most: usize) ->
         _ => line.push(random.pick(b"\r 0f")),
     }
     line
+}
+
+/// Damages a line of `calls`; now and then it asks for another call.
+pub fn call(random: &mut Random, mut line: Vec<u8>, head: usize) -> Vec<u8> {
+    if random.one_in(10) {
+        let place = random.place(2);
+        line[place] = random.pick(b"0123456789abcdef");
+        return line;
+    }
+    self::line(random, line, head, call_line::MOST_DIGITS)
 }
 
 fn spoil_byte(random: &mut Random, line: &mut [u8]) {

@@ -8,24 +8,23 @@ mod sets;
 mod tables;
 mod walks;
 
+use crate::call_line::Call;
 use crate::random::Random;
 use std::io::{self, Write};
 
 #[derive(Clone, Copy, Debug, PartialEq, Eq)]
 pub enum Kind {
     Plan,
-    Check,
-    Moves,
-    Walk,
+    Call(Call),
 }
 
 impl Kind {
     pub fn named(name: &str) -> Option<Kind> {
         match name {
             "plan" => Some(Kind::Plan),
-            "check" => Some(Kind::Check),
-            "moves" => Some(Kind::Moves),
-            "walk" => Some(Kind::Walk),
+            "check" => Some(Kind::Call(Call::Check)),
+            "moves" => Some(Kind::Call(Call::Moves)),
+            "walk" => Some(Kind::Call(Call::Walk)),
             _ => None,
         }
     }
@@ -35,8 +34,8 @@ impl Kind {
 pub fn line(kind: Kind, random: &mut Random) -> Vec<u8> {
     match kind {
         Kind::Plan => plans::line(random),
-        Kind::Check | Kind::Moves => tables::line(random),
-        Kind::Walk => walks::line(random),
+        Kind::Call(Call::Walk) => walks::line(random),
+        Kind::Call(call) => tables::line(random, call),
     }
 }
 

@@ -2,6 +2,7 @@
 
 use super::damage;
 use crate::allocation::{Allocation, Joined};
+use crate::call_line::Call;
 use crate::random::Random;
 use crate::stretches;
 use crate::table::{frame_table, to_words, Piece, MOST_PIECES};
@@ -16,11 +17,11 @@ pub struct Table {
 }
 
 /// An input line of the table check or the move count.
-pub fn line(random: &mut Random) -> Vec<u8> {
+pub fn line(random: &mut Random, call: Call) -> Vec<u8> {
     let table = table(random);
-    let line = table_line::write(table.frame, table.cores, &table.words);
+    let line = table_line::write(call, table.frame, table.cores, &table.words);
     if random.one_in(10) {
-        return damage::line(random, line, 16, table_line::MOST_DIGITS);
+        return damage::call(random, line, 18);
     }
     line
 }

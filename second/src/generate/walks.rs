@@ -1,7 +1,7 @@
 //! Input lines of the walker.
 
 use super::{damage, tables};
-use crate::jobs::{MOST_RELEASE, MOST_UNITS};
+use crate::jobs::{MOST_JOBS, MOST_RELEASE, MOST_UNITS};
 use crate::random::Random;
 use crate::walk_line::{self, Walk};
 
@@ -20,6 +20,9 @@ pub fn line(random: &mut Random) -> Vec<u8> {
         releases,
         units,
     };
+    if random.one_in(200) {
+        many_jobs(random, &mut walk);
+    }
     if random.one_in(3) {
         for _ in 0..random.between(1, 2) {
             spoil(random, &mut walk);
@@ -27,7 +30,7 @@ pub fn line(random: &mut Random) -> Vec<u8> {
     }
     let line = walk_line::write(&walk);
     if random.one_in(15) {
-        return damage::line(random, line, 40, walk_line::MOST_DIGITS);
+        return damage::call(random, line, 42);
     }
     line
 }
@@ -59,6 +62,16 @@ fn jobs(random: &mut Random, frame: u64) -> (Vec<u64>, Vec<u64>) {
         units.push(random.between(0, most));
     }
     (releases, units)
+}
+
+/// As many jobs as are allowed, or one less or more.
+fn many_jobs(random: &mut Random, walk: &mut Walk) {
+    let count = MOST_JOBS - 1 + random.place(3);
+    let release = walk.releases.last().copied().unwrap_or(0);
+    let asked = walk.units.last().copied().unwrap_or(0);
+    walk.releases.resize(count, release);
+    walk.units.resize(count, asked);
+    walk.room = count;
 }
 
 /// One fault of a job list, or a finish list that is too short.

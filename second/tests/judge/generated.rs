@@ -1,13 +1,15 @@
 //! The judge over generated lines: right answers pass, changed ones do not.
 
 use crate::planner;
+use second::accepted;
 use second::answers::judge;
+use second::call_line::{self, Call};
 use second::generate::{self, Kind};
 use second::jobs::{walk, Walked};
 use second::lines::{judge_all, Outcome};
 use second::random::Random;
-use second::table::Piece;
-use second::{accepted, table_line, walk_line};
+use second::table::{to_words, Piece};
+use second::walk_line::{self, Walk};
 use std::collections::BTreeMap;
 
 fn lines(kind: Kind, seed: u64, count: usize) -> Vec<Vec<u8>> {
@@ -48,9 +50,12 @@ fn every_answer_is_met() {
     let wanted = ["00", "01", "02", "03", "04", "05", "07", "0c"];
     assert_eq!(plan.keys().collect::<Vec<_>>(), wanted);
     assert!(plan["00"] > 500 && plan["07"] > 400, "{plan:?}");
-    let check = numbers(lines(Kind::Check, 22, 2_000).iter().map(|line| table_line::check(line)));
+    let calls = |call| {
+        numbers(lines(Kind::Call(call), 22, 2_000).iter().map(|line| call_line::answer(line)))
+    };
+    let check = calls(Call::Check);
     assert_eq!(check.keys().collect::<Vec<_>>(), ["00", "01", "02", "08", "0c"]);
-    let walk = numbers(lines(Kind::Walk, 22, 2_000).iter().map(|line| walk_line::finishes(line)));
+    let walk = calls(Call::Walk);
     let wanted = ["00", "01", "02", "08", "09", "0a", "0b", "0c"];
     assert_eq!(walk.keys().collect::<Vec<_>>(), wanted);
     println!("{plan:?}\n{check:?}\n{walk:?}");
@@ -111,6 +116,24 @@ fn refused_walks_name_their_job() {
     assert_eq!(walk(64, &[7, 9], &[0, 0], 2), Walked::Finishes(vec![7, 9]));
     assert_eq!(walk(3, &[7, 9], &[0, 0], 1), Walked::NoRoom);
     assert_eq!(walk(3, &[], &[], 0), Walked::Finishes(vec![]));
+}
+
+/// Every limit of a job list can be met by a line, and a longer line is refused.
+#[test]
+fn long_lines_up_to_the_limit() {
+    let piece = |core| Piece { core, task: 0, start: 0, length: 1 };
+    let answer = |jobs: usize, pieces: u64| {
+        let words = to_words(&(0..pieces).map(piece).collect::<Vec<_>>());
+        let (releases, units) = (vec![0; jobs], vec![0; jobs]);
+        let walk = Walk { frame: 1, cores: 1, task: 0, room: jobs, words, releases, units };
+        let line = walk_line::write(&walk);
+        (line.len(), call_line::answer(&line))
+    };
+    let (_, accepted) = answer(4_096, 1);
+    assert_eq!(accepted.len(), 2 + 16 * 4_096);
+    assert_eq!(answer(4_097, 1), (98_402, b"0900000000".to_vec()));
+    assert_eq!(answer(4_098, 19), (call_line::MOST_DIGITS, b"08".to_vec()));
+    assert_eq!(answer(4_098, 20), (call_line::MOST_DIGITS + 32, b"0c".to_vec()));
 }
 
 #[test]

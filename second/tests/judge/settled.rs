@@ -3,6 +3,7 @@
 use crate::planner;
 use second::allocation::Allocation;
 use second::answers::judge;
+use second::call_line::{self, Call};
 use second::hex::push;
 use second::jobs::{walk, Walked};
 use second::table::{from_words, moves, Piece};
@@ -98,20 +99,20 @@ fn p9_and_p10_finish() {
 #[test]
 fn p1_lines_of_the_other_calls() {
     let words = second::table::to_words(&p1_table());
-    let line = table_line::write(6, 2, &words);
-    assert_eq!(table_line::check(&line), b"00");
-    assert_eq!(table_line::count(&line), b"0000000001");
+    let answer = |call| call_line::answer(&table_line::write(call, 6, 2, &words));
+    assert_eq!(answer(Call::Check), b"00");
+    assert_eq!(answer(Call::Moves), b"0000000001");
     let walk = walk_line::Walk {
         frame: 6,
         cores: 2,
         task: 0,
         room: 2,
-        words,
+        words: words.clone(),
         releases: vec![4, 13],
         units: vec![6, 6],
     };
     let line = walk_line::write(&walk);
-    assert_eq!(walk_line::finishes(&line), b"00000000000000000e0000000000000016");
+    assert_eq!(call_line::answer(&line), b"00000000000000000e0000000000000016");
 }
 
 #[test]

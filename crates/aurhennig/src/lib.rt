@@ -1,0 +1,3 @@
+// The line call: document 01, "Lines". One line in and one line out, on lent byte slices.
+mod digits;
+mod fields;

@@ -1,3 +1,5 @@
 pub mod DigitLaws
 pub mod FieldLaws
-pub mod WrittenLaws
+pub mod PastedLaws
+pub mod PieceLaws
+pub mod AnswerLaws

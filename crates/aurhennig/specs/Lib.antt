@@ -1,3 +1,3 @@
 pub mod Digits
 pub mod Held
-pub mod Written
+pub mod Pasted

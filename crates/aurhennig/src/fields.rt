@@ -4,9 +4,9 @@ use crate::digits::digit_value;
 ghost use mathlib.Core.Path.{_≡_};
 ghost use Prim.Native.Nat.{_+_, _*_, _≤_};
 ghost use lib.ListN.{length};
-ghost use Rattle.rules.specs.Line.{digitsAt};
+ghost use Rattle.rules.specs.Line.{bytes, digitsAt};
 ghost use Rattle.aurhennig.specs.Held.{heldField};
-ghost use Rattle.aurhennig.specs.Written.{written};
+ghost use Rattle.aurhennig.specs.Pasted.{pasted};
 
 // The number of `count` digits from the place `from` on.
 fn number_at(line: &[u8], from: usize, count: usize) -> u64
@@ -42,7 +42,7 @@ pub(crate) fn field_at(line: &[u8], at: usize, width: usize) -> u64
 // Writes `value` as `width` bytes, the highest digit first, at the place `at`; the rest keeps what it held.
 pub(crate) fn put_field(out: &mut [u8], at: usize, width: usize, value: u64)
     requires { ⌜ (width ≤ 8) × (at + 2 * width ≤ length (now out)) ⌝ }
-    ensures { λ _. ⌜ now (out .exit) ≡ written (now (out .entry)) at (2 * width) value ⌝ }
+    ensures { λ _. ⌜ now (out .exit) ≡ pasted (now (out .entry)) at (bytes width value) ⌝ }
 {
     let mut v = value;
     let mut i = 2 * width;

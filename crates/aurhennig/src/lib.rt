@@ -1,3 +1,4 @@
 // The line call: document 01, "Lines". One line in and one line out, on lent byte slices.
 mod digits;
+mod encode;
 mod fields;

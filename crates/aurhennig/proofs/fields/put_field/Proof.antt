@@ -1,12 +1,11 @@
 -- `aurhennig::fields::put_field` meets its contract. The digits are written from the last to the first: what is still to be written gives the same output.
 -- Assumes nothing.
 use borrow.Author.Needs.{needs}
-use mathlib.Core.Path.{_≡_}
+use mathlib.Core.Path.{_≡_, _∙_}
 use Prim.Native.Nat.{_≤_, _*_}
 use native.Mathlib.Omega.{arith}
 use lib.ListN.{length}
-use Rattle.aurhennig.specs.Written.{written}
-use Rattle.aurhennig.proofs.WrittenLaws.{put-more, put-done}
+use Rattle.aurhennig.proofs.PastedLaws.{written, written-pasted, put-more, put-done}
 use Rattle.aurhennig.proofs.fields.put_field.Statement.{statement}
 use Rattle.aurhennig.proofs.fields.put_field.Tie as tie
 
@@ -47,7 +46,7 @@ same-length : tie.Need-same-length Inv-loop μ-loop
 same-length c = search needs
 
 returns : tie.Need-returns Inv-loop μ-loop
-returns c = search (put-done, needs)
+returns c = put-done _ _ _ _ _ (c .before .loop .inv .0) (search needs) ∙ written-pasted _ _ _ _
 
 pub put-field-spec : {M : Type 1} → statement M
 put-field-spec =

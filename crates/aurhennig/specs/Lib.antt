@@ -1,3 +1,5 @@
 pub mod Digits
 pub mod Held
 pub mod Pasted
+pub mod Three
+pub mod Decoded

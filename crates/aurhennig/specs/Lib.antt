@@ -3,3 +3,4 @@ pub mod Held
 pub mod Pasted
 pub mod Three
 pub mod Decoded
+pub mod SetLine

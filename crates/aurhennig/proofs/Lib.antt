@@ -3,6 +3,7 @@ pub mod FieldLaws
 pub mod DecodeLaws
 pub mod ReadBack
 pub mod Decoding
+pub mod Distinct
 pub mod PastedLaws
 pub mod PieceLaws
 pub mod AnswerLaws

@@ -4,3 +4,4 @@ pub mod Pasted
 pub mod Three
 pub mod Decoded
 pub mod SetLine
+pub mod Shown

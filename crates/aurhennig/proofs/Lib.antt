@@ -7,3 +7,5 @@ pub mod Distinct
 pub mod PastedLaws
 pub mod PieceLaws
 pub mod AnswerLaws
+pub mod CallLaws
+pub mod OneAnswer

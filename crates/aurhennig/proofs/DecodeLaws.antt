@@ -9,7 +9,7 @@ use native.Mathlib.Omega.{arith}
 use lib.Dec.{leb, ltb, eqb}
 use lib.ListN.{length, getD, take, drop, set, length-append, drop-of-length-le}
 use lib.Seq.{drop-cons, set-at}
-use borrow.Author.Tests.{le-leb, lt-leb, eq-eqb, ne-eqb}
+use borrow.Author.Tests.{le-leb, lt-leb, eq-eqb, ne-eqb, eqb-true}
 use Rattle.rules.specs.Line.{isDigit, digitsAt, field, lineFrame, lineCores, lineTasks, taskFields, allDigits, wellWritten}
 use Rattle.aurhennig.specs.Held.{heldField}
 use Rattle.aurhennig.specs.Three.{threeAt}
@@ -123,3 +123,26 @@ module _ (l : List ℕ) where
         pub line-last : (t : ℕ) → 12 ≤ length l → t ≡ lineTasks l → eqb (length l) (2 * (6 + 6 * t)) ≡ wellWritten l
         unfolding wellWritten
         line-last t h e = simp (le-leb (length l) 3072 few, ← digits, all, eq-eqb (length l % 2) 0 even, le-leb 12 (length l) h, e)
+
+-- what a well-written line has
+and-left : (p q : Bool) → p && q ≡ true → p ≡ true
+and-left true q e = refl
+and-left false q e = e
+
+and-right : (p q : Bool) → p && q ≡ true → q ≡ true
+and-right true q e = e
+and-right false q e = cc
+
+module _ (l : List ℕ) (e : wellWritten l ≡ true) where
+  pub written-length : length l ≡ 2 * (6 + 6 * lineTasks l)
+  unfolding wellWritten
+  written-length =
+      eqb-true (length l) (2 * (6 + 6 * lineTasks l))
+      (and-right (leb (length l) 3072 && allDigits l && eqb (length l % 2) 0 && leb 12 (length l)) (eqb (length l) (2 * (6 + 6 * lineTasks l))) e)
+
+  pub written-long : 12 ≤ length l
+  written-long = omega (arith, written-length)
+
+-- a byte's number
+pub tasks-below : (l : List ℕ) → lineTasks l < 256
+tasks-below l = digits-below l 10 2

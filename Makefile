@@ -8,7 +8,8 @@ kit:
 	@found="$$(rt version)"; test "$$found" = "$(KIT)" || echo "note: this kit is '$$found'; the proofs were last seen with '$(KIT)'"
 
 run: kit
-	@rt check
+	@rt check | tail -n 1
+	@cat examples/settled.txt
 
 test: kit
 	@rt ci

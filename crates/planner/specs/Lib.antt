@@ -1,1 +1,15 @@
 pub mod Certificate
+pub mod Ready
+pub mod Small
+pub mod Flow
+pub mod Stripping
+pub mod Ring
+pub mod Path
+pub mod Verdict
+pub mod Fill
+pub mod Search
+pub mod Filled
+pub mod Back
+pub mod Plan
+pub mod Walking
+pub mod Pieces

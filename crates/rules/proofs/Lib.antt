@@ -1,1 +1,5 @@
-pub mod Try
+pub mod Below
+pub mod OneTask
+pub mod Computed
+pub mod Settled
+pub mod Values

@@ -11,6 +11,7 @@ pub mod FrameTable
 pub mod Moves
 pub mod Service
 pub mod Finish
+pub mod Obeys
 pub mod Layout
 pub mod Table
 pub mod Tests
@@ -20,3 +21,4 @@ pub mod Jobs
 pub mod Walked
 pub mod Line
 pub mod LineCall
+pub mod Settled

@@ -150,3 +150,14 @@ positive-of (suc n) h = refl
 
 pub positive-none : {n : ℕ} → n ≡ 0 → positive n ≡ 0
 positive-none e = rw e
+
+-- two functions that differ at one place only
+pub sum-but-one : (n t : ℕ) (f g : ℕ → ℕ) → t < n → ((i : ℕ) → i < n → (i ≡ t → ⊥) → f i ≡ g i) → sumTo n f + g t ≡ sumTo n g + f t
+sum-but-one n t f g l h = ap (λ (s : ℕ). s + g t) (sum-cong n same) ∙ sum-put n t (f t) g l
+  where
+    same : (i : ℕ) → i < n → f i ≡ put t (f t) g i
+    same i k =
+        elim (ℕ-discrete i t) [
+          | yes e ↦ ap f e ∙ sym (put-same t (f t) g) ∙ ap (put t (f t) g) (sym e)
+          | no ne ↦ h i k ne ∙ sym (put-other t (f t) g i ne)
+        ]

@@ -1,0 +1,87 @@
+-- The laws by which the parts of the planner make up its answer.
+-- Assumes nothing.
+use mathlib.Core.Path.{_≡_, refl, sym, _∙_, ap, subst}
+use mathlib.Core.List.{List, _++_}
+use Prim.Native.Nat.{ℕ, _+_, _*_, _/_, _≤_, _<_}
+use native.Mathlib.Omega.{arith}
+use lib.ListN.{length, drop, replicate, length-replicate}
+use Rattle.rules.specs.Sum.{sumTo}
+use Rattle.rules.specs.Sets.{union}
+use Rattle.rules.specs.Piece.{numbersOf}
+use Rattle.rules.specs.Allocation.{Allocation}
+use Rattle.rules.specs.Table.{tableOf}
+use Rattle.rules.specs.Tests.{Tested, refused, passed, tested}
+use Rattle.rules.specs.Plan.{at, Refusal, PlannedBy, OverloadedBy, Decided, planned, overloaded, PlanAnswer, PlanAnswerAt}
+use Rattle.rules.specs.declared.Answer.{Answer}
+use Rattle.rules.specs.declared.Answer.the-variants.{Accepted, Overloaded}
+use Rattle.rules.specs.declared.Planned.{Planned}
+use Rattle.planner.specs.Certificate.{cell, Peeled}
+use Rattle.planner.specs.Ring.{Kept}
+use Rattle.planner.specs.Ready.{Ready}
+use Rattle.planner.specs.Fill.{FillReady}
+use Rattle.planner.specs.Filled.{WholeBy, ShortBy}
+use Rattle.planner.specs.Plan.{DecideReady, Settled}
+use Rattle.planner.proofs.FillLaws.{zeros}
+use Rattle.planner.proofs.Forest.{peeled-has-no-loop}
+use Rattle.planner.proofs.Unlooped.{kept-allocation}
+use Rattle.planner.proofs.PassedLaws.{passed-ready}
+
+module _ (F m : ℕ) (budgets masks table : List ℕ) (d : DecideReady F m budgets masks table) where
+  -- no units yet
+  pub fill-ready : FillReady F m budgets masks (replicate 1024 0)
+  fill-ready = record { given = d .given; long = length-replicate {A = ℕ} 1024 0; empty = zeros 1024 }
+
+  module _ (units : List ℕ) (w : WholeBy F m budgets masks units) where
+    -- no task has more units than a frame
+    pub rows-small : (a : ℕ) → a < length budgets → sumTo m (cell units a) ≤ 1000000
+    rows-small a l = omega (arith, w .allocation .exact a l, d .given .small a l, d .given .frame)
+
+    module _ (after : List ℕ) (k : Kept (length budgets) m (cell units) (cell after)) (p : Peeled (length budgets) m (cell after)) where
+      again : Allocation (length budgets) m (λ j. F) (at budgets) (at masks) (cell after)
+      again = kept-allocation (w .allocation) k
+
+      pub layout-ready : Ready F (length budgets) m (cell after)
+      layout-ready =
+          record {
+            frame-some = d .frame-some;
+            frame-most = d .given .frame;
+            tasks-most = d .given .tasks;
+            cores-some = d .cores-some;
+            cores-most = d .given .cores;
+            peeled = p;
+            rows = λ i l. subst (λ (v : ℕ). v ≤ F) (sym (again .exact i l)) (d .given .small i l);
+            cols = again .within;
+          }
+
+      pub settled-by : (r : ℕ) (now : List ℕ) → r ≡ length (tableOf F (length budgets) m (cell after))
+          → now ≡ numbersOf (tableOf F (length budgets) m (cell after)) ++ drop (4 * r) table → Settled F m budgets masks table r now (cell after)
+      settled-by r now e f =
+          record {
+            allocation = again;
+            loop-free = peeled-has-no-loop p;
+            pieces = e;
+            table = f ∙ ap (λ (k : ℕ). numbersOf (tableOf F (length budgets) m (cell after)) ++ drop (4 * k) table) e;
+          }
+
+  pub decided-whole : (r : ℕ) (now : List ℕ) (x : ℕ → ℕ → ℕ) → Settled F m budgets masks table r now x
+      → Decided F m budgets masks table (record { answer = Accepted; pieces = r }) now
+  decided-whole r now x s =
+      planned x (record { allocation = s .allocation; loop-free = s .loop-free; answer = refl; pieces = s .pieces; table = s .table })
+
+  pub decided-short : (g c : ℕ) → ShortBy F m budgets masks g c → Decided F m budgets masks table (record { answer = Overloaded g c; pieces = 0 }) table
+  decided-short g c s =
+      overloaded g
+      (record { exceeds = s .exceeds; smallest = s .smallest; refusal = record { answer = ap (Overloaded g) (s .cores); pieces = refl; kept = refl } })
+
+module _ (F m : ℕ) (budgets masks before : List ℕ) where
+  pub answer-refused : (a : Answer) → refused a ≡ tested F m budgets masks before → PlanAnswer F m budgets masks before (record { answer = a; pieces = 0 }) before
+  answer-refused a e =
+      subst (λ (t : Tested). PlanAnswerAt t F m budgets masks before (record { answer = a; pieces = 0 }) before) e
+      (record { answer = refl; pieces = refl; kept = refl })
+
+  pub answer-ready : passed ≡ tested F m budgets masks before → DecideReady F m budgets masks before
+  answer-ready e = passed-ready F m budgets masks before (sym e)
+
+  pub answer-decided : (r : Planned) (after : List ℕ) → passed ≡ tested F m budgets masks before → Decided F m budgets masks before r after
+      → PlanAnswer F m budgets masks before r after
+  answer-decided r after e h = subst (λ (t : Tested). PlanAnswerAt t F m budgets masks before r after) e h

@@ -1,0 +1,57 @@
+-- Laws for the code that adds up a group's budgets and its cores' capacity.
+-- Assumes nothing.
+use mathlib.Core.Path.{_≡_, refl, sym, _∙_, ap, ap₂}
+use mathlib.Core.List.{List}
+use Prim.Native.Nat.{ℕ, _+_, _*_, _-_, _^_, _≤_, _<_}
+use native.Mathlib.Nat.{mul-le-mul-left, mul-le-mul-right, mul-comm, lt-of-le-of-lt, le-trans, le-of-eq, one-mul}
+use native.Mathlib.Numerals.{add-one}
+use native.Mathlib.Omega.{arith}
+use lib.ListN.{length, getD}
+use lib.Count.{ones, ones-le}
+use Rattle.rules.specs.Sum.{sumTo}
+use Rattle.rules.specs.Sets.{has}
+use Rattle.rules.specs.Plan.{at}
+use Rattle.rules.specs.Excess.{groupBudget, capacity}
+use Rattle.sums.proofs.Sum.{sum-cong, sum-scale}
+use Rattle.sums.proofs.Sets.{ones-has}
+
+pub part-small : (a b : ℕ) → a < 2 → b < 2 ^ 32 → a * b < 2 ^ 32
+part-small a b h l = lt-of-le-of-lt (le-trans (mul-le-mul-right b (le-one h)) (le-of-eq (one-mul b))) l
+  where
+    le-one : {a : ℕ} → a < 2 → a ≤ 1
+    le-one h = omega arith
+
+pub group-none : (l : List ℕ) (g : ℕ) → 0 ≡ sumTo 0 (λ k. has g k * at l k)
+unfolding sumTo
+group-none l g = refl
+
+pub group-more : (l : List ℕ) (g i v b w : ℕ) → v ≡ sumTo i (λ k. has g k * at l k) → b ≡ has g i → w ≡ b * getD l i 0
+    → v + w ≡ sumTo (i + 1) (λ k. has g k * at l k)
+unfolding sumTo
+group-more l g i v b w e f h = rw (add-one i) (ap₂ _+_ e (h ∙ ap (λ (k : ℕ). k * getD l i 0) f))
+
+pub group-done : (l : List ℕ) (g i v : ℕ) → v ≡ sumTo i (λ k. has g k * at l k) → i ≤ length l → length l ≤ i
+    → v ≡ groupBudget (length l) (at l) g
+unfolding groupBudget
+group-done l g i v e h k = e ∙ ap (λ (n : ℕ). sumTo n (λ k. has g k * at l k)) (meet h k)
+  where
+    meet : {a b : ℕ} → a ≤ b → b ≤ a → a ≡ b
+    meet h k = omega arith
+
+-- the capacity of cores that all have one limit, by the count of ones
+pub capacity-ones : (F c : ℕ) → c < 2 ^ 16 → F * ones c ≡ capacity 16 (λ j. F) c
+unfolding capacity
+capacity-ones F c l =
+    ap (λ (k : ℕ). F * k) (ones-has 16 c l) ∙ sym (sum-scale 16 F (has c)) ∙ sum-cong 16 (λ j k. mul-comm F (has c j))
+
+pub room-small : (F c : ℕ) → F < 2 ^ 32 → c < 2 ^ 16 → (ones c ≤ 16) × (F * ones c ≤ F * 16)
+room-small F c h l = (ones-le 16 c l, mul-le-mul-left F (ones-le 16 c l))
+
+pub excess-some : (F c : ℕ) {need sum : ℕ} → c < 2 ^ 16 → need ≡ sum → need - F * ones c ≡ sum - capacity 16 (λ j. F) c
+excess-some F c l e = ap₂ _-_ e (capacity-ones F c l)
+
+pub excess-none : (F c : ℕ) {need sum : ℕ} → c < 2 ^ 16 → need ≡ sum → need ≤ F * ones c → 0 ≡ sum - capacity 16 (λ j. F) c
+excess-none F c {need} l e h = none h ∙ excess-some F c l e
+  where
+    none : {a b : ℕ} → a ≤ b → 0 ≡ a - b
+    none h = omega arith

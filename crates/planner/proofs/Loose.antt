@@ -1,0 +1,101 @@
+-- The laws by which the lowest loose vertex is sought, and by which one vertex after another goes.
+-- Assumes nothing.
+use mathlib.Core.Path.{_≡_, refl, sym, _∙_, ap, subst}
+use mathlib.Core.Bool.{Bool, true, false, true≢false}
+use Prim.Native.Nat.{ℕ, zero, suc, _+_, _-_, _*_, _^_, _≤_, _<_}
+use native.Mathlib.Omega.{arith}
+use native.Mathlib.Decide.{ℕ-discrete}
+use borrow.Author.Count.{below-none, below-more}
+use borrow.Author.Tests.{leb-true, leb-false}
+use lib.Dec.{leb}
+use lib.Bits.{bitOr}
+use Rattle.rules.specs.Sum.{sumTo, put}
+use Rattle.rules.specs.Sets.{has}
+use Rattle.sums.proofs.Sum.{sum-cong, sum-put, sum-put-past, put-same, put-other}
+use Rattle.sums.proofs.Sets.{with-same, with-other}
+use Rattle.planner.specs.Stripping.{there, links, FirstLoose, Fast, Stripping}
+use Rattle.planner.proofs.Strip.{strip-task, strip-core}
+
+abbrev pub Stays : ℕ → ℕ → Bool → Type 0
+Stays gone count r = (r ≡ false → gone ≡ 0) × (r ≡ false → count ≤ 1) × (r ≡ true → gone ≡ 0 → 2 ≤ count)
+
+pub stays-there : (gone count : ℕ) → gone ≡ 0 → Stays gone count (leb 2 count)
+stays-there gone count e = (λ f. e, λ f. low (leb-false 2 count f), λ f z. leb-true 2 count f)
+  where
+    low : count < 2 → count ≤ 1
+    low l = omega arith
+
+pub stays-gone : (gone count : ℕ) → (gone ≡ 0 → ⊥) → Stays gone count true
+stays-gone gone count ne = (λ f. absurd (true≢false f), λ f. absurd (true≢false f), λ f z. absurd (ne z))
+
+module _ (gone : ℕ) (count : ℕ → ℕ) where
+  -- those below i that are still there have two links at least
+  abbrev pub FastBelow : ℕ → Type 0
+  FastBelow i = (k : ℕ) → k < i → has gone k ≡ 0 → 2 ≤ count k
+
+  pub fast-none : FastBelow 0
+  fast-none k l = below-none (λ k. has gone k ≡ 0 → 2 ≤ count k) k l
+
+  pub fast-more : (i b l : ℕ) (r : Bool) → FastBelow i → b ≡ has gone i → l ≡ count i → Stays b l r → r ≡ true → FastBelow (i + 1)
+  fast-more i b l r h e f s t =
+      below-more (λ k. has gone k ≡ 0 → 2 ≤ count k) i h (λ z. subst (λ (c : ℕ). 2 ≤ c) f (s .2 t (e ∙ z)))
+
+  pub loose-found : (n i b l : ℕ) (r : Bool) → FastBelow i → i < n → b ≡ has gone i → l ≡ count i → Stays b l r → r ≡ false → FirstLoose n gone count i
+  loose-found n i b l r h below e f s t =
+      record {
+        within = omega arith;
+        there-still = λ w. sym e ∙ s .0 t;
+        loose = λ w. subst (λ (c : ℕ). c ≤ 1) f (s .1 t);
+        fast = h;
+      }
+
+  pub loose-none : (n i : ℕ) → FastBelow i → i ≤ n → n ≤ i → FirstLoose n gone count i
+  loose-none n i h p q = record { within = p; there-still = λ w. absurd (no w q); loose = λ w. absurd (no w q); fast = h }
+    where
+      no : {a b : ℕ} → a < b → b ≤ a → ⊥
+      no w q = omega arith
+
+-- one vertex less is still there
+pub fewer-there : (n g v : ℕ) → v < n → has g v ≡ 0 → sumTo n (there (bitOr g (2 ^ v))) < sumTo n (there g)
+fewer-there n g v l z =
+    less (sum-cong n {f = there (bitOr g (2 ^ v))} {g = put v 0 (there g)} same) (sum-put n v 0 (there g) l) (one z)
+  where
+    same : (i : ℕ) → i < n → there (bitOr g (2 ^ v)) i ≡ put v 0 (there g) i
+    same i k =
+        elim (ℕ-discrete i v) [
+          | yes e ↦ ap (λ (w : ℕ). there (bitOr g (2 ^ v)) w) e ∙ ap (λ (w : ℕ). 1 - w) (with-same g v) ∙ sym (put-same v 0 (there g)) ∙ ap (λ (w : ℕ). put v 0 (there g) w) (sym e)
+          | no ne ↦ ap (λ (w : ℕ). 1 - w) (with-other g v i ne) ∙ sym (put-other v 0 (there g) i ne)
+        ]
+
+    one : has g v ≡ 0 → there g v ≡ 1
+    one z = ap (λ (w : ℕ). 1 - w) z
+
+    less : {a b c d : ℕ} → a ≡ b → b + c ≡ d + 0 → c ≡ 1 → a < d
+    less p q r = omega arith
+
+module _ (n m : ℕ) (x : ℕ → ℕ → ℕ) (g h : ℕ) (s : Stripping n m x g h) where
+  pub peel-task : (r b : ℕ) → FirstLoose n g (links m h x) r → r < n → b ≡ bitOr g (2 ^ r) → Stripping n m x b h
+  peel-task r b f l e = subst (λ (k : ℕ). Stripping n m x k h) (sym e) (strip-task n m x g h r s l (f .there-still l) (f .loose l))
+
+  pub peel-core : (r b : ℕ) → FirstLoose m h (links n g (λ j i. x i j)) r → r < m → b ≡ bitOr h (2 ^ r) → Stripping n m x g b
+  peel-core r b f l e = subst (λ (k : ℕ). Stripping n m x g k) (sym e) (strip-core n m x g h r s l (f .there-still l) (f .loose l))
+
+pub task-less : (n m g h r b : ℕ) (count : ℕ → ℕ) → FirstLoose n g count r → r < n → b ≡ bitOr g (2 ^ r)
+    → sumTo n (there b) + sumTo m (there h) < sumTo n (there g) + sumTo m (there h)
+task-less n m g h r b count f l e = rw e (lift _ (fewer-there n g r l (f .there-still l)))
+  where
+    lift : {a b : ℕ} (c : ℕ) → a < b → a + c < b + c
+    lift c p = omega arith
+
+pub core-less : (n m g h r b : ℕ) (count : ℕ → ℕ) → FirstLoose m h count r → r < m → b ≡ bitOr h (2 ^ r)
+    → sumTo n (there g) + sumTo m (there b) < sumTo n (there g) + sumTo m (there h)
+core-less n m g h r b count f l e = rw e (lift _ (fewer-there m h r l (f .there-still l)))
+  where
+    lift : {a b : ℕ} (c : ℕ) → a < b → c + a < c + b
+    lift c p = omega arith
+
+pub all-fast : (n m : ℕ) (x : ℕ → ℕ → ℕ) (g h r q : ℕ) → FirstLoose n g (links m h x) r → n ≤ r → FirstLoose m h (links n g (λ j i. x i j)) q → m ≤ q → Fast n m x g h
+all-fast n m x g h r q f a e b = record { tasks-fast = λ i l. f .fast i (up l a); cores-fast = λ j l. e .fast j (up l b) }
+  where
+    up : {i n r : ℕ} → i < n → n ≤ r → i < r
+    up l a = omega arith

@@ -1,0 +1,55 @@
+-- Nothing passed is bad. Assumes nothing.
+use Prim.Native.Nat.{_-_, _≤_}
+use lib.ListN.{length}
+use Rattle.rules.specs.Tests.{badBudget}
+use Rattle.planner.proofs.FirstLaws.{NoneBefore, first-begins, first-hit, first-more, first-end, budget-above, budget-within}
+use borrow.Author.Needs.{needs}
+use Rattle.planner.proofs.admit.first_bad_budget.Statement.{statement}
+use Rattle.planner.proofs.admit.first_bad_budget.Tie as tie
+use Rattle.planner.proofs.admit.first_bad_budget.Reads as reads
+use Rattle.planner.proofs.admit.first_bad_budget.Lts as lts
+
+abbrev Inv-loop : tie.InvT-loop
+Inv-loop budgets frame i₀ i = (i ≤ length budgets) × NoneBefore (badBudget frame) budgets i
+
+abbrev μ-loop : tie.MeasureT-loop
+μ-loop budgets frame i₀ i = length budgets - i
+
+loop-holds : tie.Need-loop-holds Inv-loop μ-loop
+loop-holds c = (search needs, first-begins _ _)
+
+mul-if1 : tie.Need-mul-if1 Inv-loop μ-loop
+mul-if1 c = search needs
+
+shared-slice-read-if1 : tie.Need-shared-slice-read-if1 Inv-loop μ-loop
+shared-slice-read-if1 c = search needs
+
+returns : tie.Need-returns Inv-loop μ-loop
+returns c = search (first-hit, budget-above, needs)
+
+add-i : tie.Need-add-i Inv-loop μ-loop
+add-i c = search needs
+
+loop-less : tie.Need-loop-less Inv-loop μ-loop
+loop-less c = search needs
+
+loop-again : tie.Need-loop-again Inv-loop μ-loop
+loop-again c = (search needs, search (first-more, budget-within, needs))
+
+returns-2 : tie.Need-returns-2 Inv-loop μ-loop
+returns-2 c = search (first-end, needs)
+
+pub first-bad-budget-spec : {M : Type 1} → statement M
+first-bad-budget-spec =
+    tie.close
+    (tie.spec
+    Inv-loop
+    μ-loop
+    loop-holds
+    mul-if1
+    shared-slice-read-if1
+    returns
+    add-i
+    loop-less
+    loop-again
+    returns-2)

@@ -1,0 +1,46 @@
+-- Outside the mask nothing changes; inside the call of place is the step. Assumes nothing.
+use Rattle.planner.proofs.FillLaws.{on-outside, on-inside}
+use borrow.Author.Needs.{needs}
+use Rattle.planner.proofs.flow.place_on.Statement.{statement}
+use Rattle.planner.proofs.flow.place_on.Tie as tie
+
+core-in-requires : tie.Need-core-in-requires
+core-in-requires c κs = search needs
+
+returns : tie.Need-returns
+returns c = on-outside (c .before .core-in .ensures .0) (c .if1 .taken)
+
+mul-least : tie.Need-mul-least
+mul-least c = search needs
+
+element-copy-out-least : tie.Need-element-copy-out-least
+element-copy-out-least c = search needs
+
+mul-least-2 : tie.Need-mul-least-2
+mul-least-2 c = search needs
+
+element-copy-out-least-2 : tie.Need-element-copy-out-least-2
+element-copy-out-least-2 c = search needs
+
+least-requires : tie.Need-least-requires
+least-requires c κs = search needs
+
+place-requires : tie.Need-place-requires
+place-requires c κs = search needs
+
+returns-2 : tie.Need-returns-2
+returns-2 c = on-inside (c .before .before .before .before .before .before .before .before .core-in .ensures .0) (c .before .before .before .before .before .before .before .if1 .left) (c .before .before .before .before .least .ensures) (c .place .ensures .0) (c .place .ensures .1) (c .place .ensures .2)
+
+pub place-on-spec : {M : Type 1} → statement M
+place-on-spec =
+    tie.close
+    (tie.spec
+    core-in-requires
+    returns
+    mul-least
+    element-copy-out-least
+    mul-least-2
+    element-copy-out-least-2
+    least-requires
+    place-requires
+    returns-2)

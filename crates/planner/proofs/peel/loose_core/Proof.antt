@@ -1,0 +1,66 @@
+-- The invariant: what was passed is gone or has two links at least. Assumes nothing.
+use Prim.Native.Nat.{_≤_, _-_}
+use Rattle.planner.specs.Certificate.{cell}
+use Rattle.planner.specs.Stripping.{links}
+use Rattle.planner.proofs.Loose.{FastBelow, fast-none, fast-more, loose-found, loose-none}
+use borrow.Author.Needs.{needs}
+use Rattle.planner.proofs.peel.loose_core.Statement.{statement}
+use Rattle.planner.proofs.peel.loose_core.Tie as tie
+use Rattle.planner.proofs.peel.loose_core.Reads as reads
+use Rattle.planner.proofs.peel.loose_core.Lts as lts
+use Rattle.planner.proofs.peel.core_links.Reads as core-links-reads
+use Rattle.planner.proofs.peel.stays.Reads as stays-reads
+use Rattle.planner.proofs.sets.core_in.Reads as core-in-reads
+
+abbrev Inv-loop : tie.InvT-loop
+Inv-loop units tasks cores tasks-gone cores-gone j₀ j = (j ≤ cores) × FastBelow cores-gone (links tasks tasks-gone (λ j i. cell units i j)) j
+
+abbrev μ-loop : tie.MeasureT-loop
+μ-loop units tasks cores tasks-gone cores-gone j₀ j = cores - j
+
+loop-holds : tie.Need-loop-holds Inv-loop μ-loop
+loop-holds c = (search needs, fast-none _ _)
+
+core-in-requires : tie.Need-core-in-requires Inv-loop μ-loop
+core-in-requires c κs = search needs
+
+cast-stays : tie.Need-cast-stays Inv-loop μ-loop
+cast-stays c = search needs
+
+core-links-requires : tie.Need-core-links-requires Inv-loop μ-loop
+core-links-requires c κs = search needs
+
+stays-requires : tie.Need-stays-requires Inv-loop μ-loop
+stays-requires c κs = search needs
+
+add-j : tie.Need-add-j Inv-loop μ-loop
+add-j c = search needs
+
+loop-less : tie.Need-loop-less Inv-loop μ-loop
+loop-less c = search needs
+
+loop-again : tie.Need-loop-again Inv-loop μ-loop
+loop-again c = (search needs, search (fast-more, needs))
+
+returns : tie.Need-returns Inv-loop μ-loop
+returns c = search (loose-found, needs)
+
+returns-2 : tie.Need-returns-2 Inv-loop μ-loop
+returns-2 c = search (loose-none, needs)
+
+pub loose-core-spec : {M : Type 1} → statement M
+loose-core-spec =
+    tie.close
+    (tie.spec
+    Inv-loop
+    μ-loop
+    loop-holds
+    core-in-requires
+    cast-stays
+    core-links-requires
+    stays-requires
+    add-j
+    loop-less
+    loop-again
+    returns
+    returns-2)

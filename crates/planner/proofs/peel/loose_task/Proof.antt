@@ -1,0 +1,62 @@
+-- The invariant: what was passed is gone or has two links at least. Assumes nothing.
+use Prim.Native.Nat.{_≤_, _-_}
+use Rattle.planner.specs.Certificate.{cell}
+use Rattle.planner.specs.Stripping.{links}
+use Rattle.planner.proofs.Loose.{FastBelow, fast-none, fast-more, loose-found, loose-none}
+use borrow.Author.Needs.{needs}
+use Rattle.planner.proofs.peel.loose_task.Statement.{statement}
+use Rattle.planner.proofs.peel.loose_task.Tie as tie
+use Rattle.planner.proofs.peel.loose_task.Reads as reads
+use Rattle.planner.proofs.peel.loose_task.Lts as lts
+use Rattle.planner.proofs.peel.stays.Reads as stays-reads
+use Rattle.planner.proofs.peel.task_links.Reads as task-links-reads
+use Rattle.planner.proofs.sets.task_in.Reads as task-in-reads
+
+abbrev Inv-loop : tie.InvT-loop
+Inv-loop units tasks cores tasks-gone cores-gone i₀ i = (i ≤ tasks) × FastBelow tasks-gone (links cores cores-gone (cell units)) i
+
+abbrev μ-loop : tie.MeasureT-loop
+μ-loop units tasks cores tasks-gone cores-gone i₀ i = tasks - i
+
+loop-holds : tie.Need-loop-holds Inv-loop μ-loop
+loop-holds c = (search needs, fast-none _ _)
+
+task-in-requires : tie.Need-task-in-requires Inv-loop μ-loop
+task-in-requires c κs = search needs
+
+task-links-requires : tie.Need-task-links-requires Inv-loop μ-loop
+task-links-requires c κs = search needs
+
+stays-requires : tie.Need-stays-requires Inv-loop μ-loop
+stays-requires c κs = search needs
+
+add-i : tie.Need-add-i Inv-loop μ-loop
+add-i c = search needs
+
+loop-less : tie.Need-loop-less Inv-loop μ-loop
+loop-less c = search needs
+
+loop-again : tie.Need-loop-again Inv-loop μ-loop
+loop-again c = (search needs, search (fast-more, needs))
+
+returns : tie.Need-returns Inv-loop μ-loop
+returns c = search (loose-found, needs)
+
+returns-2 : tie.Need-returns-2 Inv-loop μ-loop
+returns-2 c = search (loose-none, needs)
+
+pub loose-task-spec : {M : Type 1} → statement M
+loose-task-spec =
+    tie.close
+    (tie.spec
+    Inv-loop
+    μ-loop
+    loop-holds
+    task-in-requires
+    task-links-requires
+    stays-requires
+    add-i
+    loop-less
+    loop-again
+    returns
+    returns-2)

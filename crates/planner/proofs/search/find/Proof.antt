@@ -1,0 +1,43 @@
+-- Each way out is a law of the step: weighs nothing, found already, found now. Assumes nothing.
+use Rattle.planner.proofs.SearchLaws.{find-nothing, find-known, find-new}
+use borrow.Author.Needs.{needs}
+use Rattle.planner.proofs.search.find.Statement.{statement}
+use Rattle.planner.proofs.search.find.Tie as tie
+
+returns : tie.Need-returns
+returns c = λ n masks w d e l. find-nothing (c .before .args .t) (c .before .pre .2) e (c .if1 .taken)
+
+task-in-requires : tie.Need-task-in-requires
+task-in-requires c κs = search needs
+
+returns-2 : tie.Need-returns-2
+returns-2 c = λ n masks w d e l. find-known (c .before .before .before .args .t) (c .before .before .before .pre .2) (c .before .task-in .ensures .0) (c .if2 .taken)
+
+mul-from : tie.Need-mul-from
+mul-from c = search needs
+
+element-write-from : tie.Need-element-write-from
+element-write-from c = search needs
+
+with-task-requires : tie.Need-with-task-requires
+with-task-requires c κs = search needs
+
+reach-requires : tie.Need-reach-requires
+reach-requires c κs = search needs
+
+returns-3 : tie.Need-returns-3
+returns-3 c = λ n masks w d e l.
+    find-new (c .before .before .before .before .before .before .before .args .t) (c .before .before .before .before .before .before .before .pre .2) d e l (c .before .before .before .before .before .before .if1 .left) (c .before .before .before .before .before .task-in .ensures .0) (c .before .before .before .before .before .task-in .ensures .1) (c .before .before .before .before .if2 .left) (c .before .before .before .with-task .ensures) (c .reach .ensures)
+
+pub find-spec : {M : Type 1} → statement M
+find-spec =
+    tie.close
+    (tie.spec
+    returns
+    task-in-requires
+    returns-2
+    mul-from
+    element-write-from
+    with-task-requires
+    reach-requires
+    returns-3)

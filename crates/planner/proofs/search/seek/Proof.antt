@@ -1,0 +1,70 @@
+-- The loop keeps what was sought; each way out is a law of it. Assumes nothing.
+use Prim.Native.Nat.{_-_}
+use lib.ListN.{length}
+use native.Mathlib.Omega.{arith}
+use Rattle.planner.specs.Search.{Sought}
+use Rattle.planner.proofs.SeekLaws.{found-sized, place-small, sought-start, sought-more, sought-room, sought-end}
+use borrow.Author.Needs.{needs}
+use Rattle.planner.proofs.search.seek.Statement.{statement}
+use Rattle.planner.proofs.search.seek.Tie as tie
+
+abbrev Inv-loop : tie.InvT-loop
+Inv-loop cores masks units left room queue₀ via₀ from₀ s₀ head₀ queue via from s head = Sought (length masks) cores masks units left room queue via from head s
+
+abbrev μ-loop : tie.MeasureT-loop
+μ-loop cores masks units left room queue₀ via₀ from₀ s₀ head₀ queue via from s head = 16 - head
+
+begin-requires : tie.Need-begin-requires Inv-loop μ-loop
+begin-requires c κs = search needs
+
+loop-holds : tie.Need-loop-holds Inv-loop μ-loop
+loop-holds c = search (sought-start, needs)
+
+mul-core : tie.Need-mul-core Inv-loop μ-loop
+mul-core c = omega (arith, place-small (c .before .before .loop .inv) (c .if1 .taken))
+
+element-copy-out-core : tie.Need-element-copy-out-core Inv-loop μ-loop
+element-copy-out-core c = omega (arith, place-small (c .before .before .loop .inv) (c .if1 .taken))
+
+mul-if2 : tie.Need-mul-if2 Inv-loop μ-loop
+mul-if2 c = omega (arith, place-small (c .before .before .before .loop .inv) (c .before .if1 .taken))
+
+element-copy-out-if2 : tie.Need-element-copy-out-if2 Inv-loop μ-loop
+element-copy-out-if2 c = omega (arith, place-small (c .before .before .before .loop .inv) (c .before .if1 .taken))
+
+returns : tie.Need-returns Inv-loop μ-loop
+returns c = (found-sized (c .before .before .before .before .before .loop .inv .found), sought-room (c .before .before .before .before .before .loop .inv) (c .before .before .before .if1 .taken) (c .if2 .taken))
+
+expand-requires : tie.Need-expand-requires Inv-loop μ-loop
+expand-requires c κs = (c .before .before .before .before .before .before .before .before .before .before .before .before .before .before .pre .0, c .before .before .before .before .before .before .before .before .before .before .before .before .before .before .pre .1, place-small (c .before .before .before .before .before .before .before .before .loop .inv) (c .before .before .before .before .before .before .if1 .taken) .0, place-small (c .before .before .before .before .before .before .before .before .loop .inv) (c .before .before .before .before .before .before .if1 .taken) .1, c .before .before .before .before .before .before .before .before .loop .inv .found .counted)
+
+add-head : tie.Need-add-head Inv-loop μ-loop
+add-head c = omega (arith, place-small (c .before .before .before .before .before .before .before .before .before .loop .inv) (c .before .before .before .before .before .before .before .if1 .taken))
+
+loop-less : tie.Need-loop-less Inv-loop μ-loop
+loop-less c = omega (arith, place-small (c .before .before .before .before .before .before .before .before .before .loop .inv) (c .before .before .before .before .before .before .before .if1 .taken))
+
+loop-again : tie.Need-loop-again Inv-loop μ-loop
+loop-again c = sought-more (c .before .before .before .before .before .before .before .before .before .loop .inv) (c .before .before .before .before .before .before .before .if1 .taken) (c .before .before .before .before .if2 .left) (c .expand .ensures)
+
+returns-2 : tie.Need-returns-2 Inv-loop μ-loop
+returns-2 c = (found-sized (c .before .before .loop .inv .found), sought-end (c .before .before .loop .inv) (c .if1 .left))
+
+pub seek-spec : {M : Type 1} → statement M
+seek-spec =
+    tie.close
+    (tie.spec
+    Inv-loop
+    μ-loop
+    begin-requires
+    loop-holds
+    mul-core
+    element-copy-out-core
+    mul-if2
+    element-copy-out-if2
+    returns
+    expand-requires
+    add-head
+    loop-less
+    loop-again
+    returns-2)

@@ -1,0 +1,17 @@
+-- The result is the bit, or the set with one bit more, by the laws of sums. Assumes nothing.
+use borrow.Author.Needs.{needs}
+use Rattle.sums.proofs.Sets.{bit-has}
+use Rattle.planner.proofs.sets.core_in.Statement.{statement}
+use Rattle.planner.proofs.sets.core_in.Tie as tie
+
+cast-result : tie.Need-cast-result
+cast-result c = search needs
+
+shr-result : tie.Need-shr-result
+shr-result c = search needs
+
+returns : tie.Need-returns
+returns c = bit-has _ _
+
+pub core-in-spec : {M : Type 1} → statement M
+core-in-spec = tie.close (tie.spec cast-result shr-result returns)

@@ -1,0 +1,293 @@
+// A greatest allocation of units to cores, or the group that lacks most: the search of `search`, run until it finds no core with room.
+ghost use mathlib.Core.Path.{_≡_};
+ghost use Prim.Native.Nat.{_+_, _≤_, _<_};
+ghost use lib.ListN.{length};
+ghost use Rattle.planner.specs.Certificate.{cell};
+ghost use Rattle.planner.specs.Search.{Sized};
+ghost use Rattle.rules.specs.Plan.{at};
+ghost use Rattle.planner.specs.Fill.{Filling, FillReady, Copied};
+ghost use Rattle.planner.specs.Back.{ShiftFits, Shifted, PlaceFits, Placed, PlacedOn, Reads, backward, lacking};
+ghost use Rattle.planner.specs.Filled.{FilledBy, PassBy};
+use crate::excess::excess;
+use crate::search::Outcome;
+use crate::search::seek;
+use crate::sets::core_in;
+use crate::steps::least;
+use crate::steps::place;
+use crate::steps::take;
+
+// All budgets have their units, or the smallest group of greatest excess lacks some, with the union of its masks.
+pub(crate) enum Filled {
+    Whole,
+    Short { group: u64, cores: u16 },
+}
+
+// One search: it placed more units, or it was the last.
+pub(crate) enum Pass {
+    More,
+    Ended(Filled),
+}
+
+// One step of the way back: units of the task at the place p go from the core through which it was found to the core at p.
+fn step_back(
+    units: &mut [u32; 1024],
+    left: &mut [u32; 64],
+    room: &mut [u32; 16],
+    queue: &[usize; 16],
+    via: &[usize; 16],
+    from: &[usize; 64],
+    p: usize,
+) -> usize
+    requires { ⌜
+        Reads (now queue) (now via) (now from) p
+        × ShiftFits
+        (now units)
+        (now left)
+        (now room)
+        (at (now via) p)
+        (at (now queue) (at (now from) (at (now via) p)))
+        (at (now queue) p)
+        (backward (now units) (now room) (now queue) (now via) (now from) p)
+        ⌝ }
+    ensures { λ r. ⌜
+        (r ≡ at (now (from .entry)) (at (now (via .entry)) p))
+        × Shifted
+        (now (units .entry))
+        (now (left .entry))
+        (now (room .entry))
+        (at (now (via .entry)) p)
+        (at (now (queue .entry)) (at (now (from .entry)) (at (now (via .entry)) p)))
+        (at (now (queue .entry)) p)
+        (backward
+        (now (units .entry))
+        (now (room .entry))
+        (now (queue .entry))
+        (now (via .entry))
+        (now (from .entry))
+        p)
+        (now (units .exit))
+        (now (left .exit))
+        (now (room .exit))
+        ⌝ }
+{
+    let t = via[p];
+    let q = from[t];
+    let core = queue[p];
+    let earlier = queue[q];
+    let d = least(room[core], units[t * 16 + earlier]);
+    take(units, left, room, t, earlier, d);
+    place(units, left, room, t, core, d);
+    q
+}
+
+// The end of the way back: the task at the place p lacks units, and the core there has room.
+fn settle(
+    units: &mut [u32; 1024],
+    left: &mut [u32; 64],
+    room: &mut [u32; 16],
+    queue: &[usize; 16],
+    via: &[usize; 16],
+    p: usize,
+)
+    requires { ⌜
+        (p < 16)
+        × PlaceFits
+        (now units)
+        (now left)
+        (now room)
+        (at (now via) p)
+        (at (now queue) p)
+        (lacking (now left) (now room) (now queue) (now via) p)
+        ⌝ }
+    ensures { λ _. ⌜
+        Placed
+        (now (units .entry))
+        (now (left .entry))
+        (now (room .entry))
+        (at (now (via .entry)) p)
+        (at (now (queue .entry)) p)
+        (lacking (now (left .entry)) (now (room .entry)) (now (queue .entry)) (now (via .entry)) p)
+        (now (units .exit))
+        (now (left .exit))
+        (now (room .exit))
+        ⌝ }
+{
+    let t = via[p];
+    let core = queue[p];
+    let d = least(room[core], left[t]);
+    place(units, left, room, t, core, d);
+}
+
+// From a core with room the way goes back to a task that lacks units: each step makes room on an earlier core. Where no core has room, the
+// excess of what was found decides.
+fn advance(
+    frame: u32,
+    cores: usize,
+    budgets: &[u32],
+    masks: &[u16],
+    units: &mut [u32; 1024],
+    left: &mut [u32; 64],
+    room: &mut [u32; 16],
+    queue: &mut [usize; 16],
+    via: &mut [usize; 16],
+    from: &mut [usize; 64],
+) -> Pass
+    requires { ⌜
+        Filling frame cores (now budgets) (now masks) (now units) (now left) (now room)
+        × Sized (now queue) (now via) (now from)
+        ⌝ }
+    ensures { λ r. ⌜
+        Sized (now (queue .exit)) (now (via .exit)) (now (from .exit))
+        × PassBy
+        frame
+        cores
+        (now (budgets .entry))
+        (now (masks .entry))
+        (now (left .entry))
+        (now (units .exit))
+        (now (left .exit))
+        (now (room .exit))
+        r
+        ⌝ }
+{
+    let found = seek(cores, masks, units, left, room, queue, via, from);
+    match found {
+        Outcome::Closed {
+            tasks,
+            cores: reached,
+        } => {
+            if excess(frame, budgets, tasks, reached) == 0 {
+                return Pass::Ended(Filled::Whole);
+            }
+            Pass::Ended(Filled::Short {
+                group: tasks,
+                cores: reached,
+            })
+        }
+        Outcome::Room(hit) => {
+            let mut p = hit;
+            while left[via[p]] == 0 {
+                p = step_back(units, left, room, queue, via, from, p);
+            }
+            settle(units, left, room, queue, via, p);
+            Pass::More
+        }
+    }
+}
+
+// What lacks at first: all budgets.
+fn copy_budgets(budgets: &[u32], left: &mut [u32; 64])
+    requires { ⌜ (length (now budgets) ≤ 64) × (length (now left) ≡ 64) ⌝ }
+    ensures { λ _. ⌜ Copied (now (budgets .entry)) (now (left .exit)) (length (now (budgets .entry))) ⌝ }
+{
+    let mut i = 0;
+    while i < budgets.len() {
+        left[i] = budgets[i];
+        i += 1;
+    }
+}
+
+// Task t gets what core j has room for, if its mask holds the core.
+fn place_on(
+    units: &mut [u32; 1024],
+    left: &mut [u32; 64],
+    room: &mut [u32; 16],
+    t: usize,
+    mask: u16,
+    j: usize,
+)
+    requires { ⌜ (t < 64) × (j < 16) × (cell (now units) t j + at (now room) j ≤ 1000000) ⌝ }
+    ensures { λ _. ⌜
+        PlacedOn
+        (now (units .entry))
+        (now (left .entry))
+        (now (room .entry))
+        t
+        j
+        mask
+        (now (units .exit))
+        (now (left .exit))
+        (now (room .exit))
+        ⌝ }
+{
+    if core_in(mask, j) == 0 {
+        return;
+    }
+    let d = least(left[t], room[j]);
+    place(units, left, room, t, j, d);
+}
+
+// The first round, which spares most searches: all cores have room, and each task takes what the cores of its mask have left.
+fn place_first(
+    frame: u32,
+    cores: usize,
+    budgets: &[u32],
+    masks: &[u16],
+    units: &mut [u32; 1024],
+    left: &mut [u32; 64],
+    room: &mut [u32; 16],
+)
+    requires { ⌜ FillReady frame cores (now budgets) (now masks) (now units) × (length (now left) ≡ 64) ⌝ }
+    ensures { λ _. ⌜
+        Filling
+        frame
+        cores
+        (now (budgets .entry))
+        (now (masks .entry))
+        (now (units .exit))
+        (now (left .exit))
+        (now (room .exit))
+        ⌝ }
+{
+    copy_budgets(budgets, left);
+    *room = [frame; 16];
+    let mut t = 0;
+    while t < budgets.len() {
+        let mask = masks[t];
+        let mut j = 0;
+        while j < cores {
+            place_on(units, left, room, t, mask, j);
+            j += 1;
+        }
+        t += 1;
+    }
+}
+
+// Search after search, until no core with room is found.
+pub(crate) fn fill(
+    frame: u32,
+    cores: usize,
+    budgets: &[u32],
+    masks: &[u16],
+    units: &mut [u32; 1024],
+) -> Filled
+    requires { ⌜ FillReady frame cores (now budgets) (now masks) (now units) ⌝ }
+    ensures { λ r. ⌜ FilledBy frame cores (now (budgets .entry)) (now (masks .entry)) (now (units .exit)) r ⌝ }
+{
+    let mut left = [0u32; 64];
+    let mut room = [frame; 16];
+    place_first(frame, cores, budgets, masks, units, &mut left, &mut room);
+    let mut queue = [0usize; 16];
+    let mut via = [0usize; 16];
+    let mut from = [0usize; 64];
+    loop {
+        let pass = advance(
+            frame,
+            cores,
+            budgets,
+            masks,
+            units,
+            &mut left,
+            &mut room,
+            &mut queue,
+            &mut via,
+            &mut from,
+        );
+        match pass {
+            Pass::More => {}
+            Pass::Ended(filled) => {
+                return filled;
+            }
+        }
+    }
+}

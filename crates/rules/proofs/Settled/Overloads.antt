@@ -1,0 +1,85 @@
+-- P2, P3 and P6: the group is the smallest of greatest excess among all groups. P4: a budget above F.
+-- Assumes nothing.
+use mathlib.Core.Path.{_≡_, refl}
+use mathlib.Core.List.{List, [], _∷_}
+use Prim.Native.Nat.{ℕ, _+_, _^_, _≤_, _<_}
+use native.Mathlib.Omega.{arith}
+use lib.Dec.{lit<}
+use lib.ListN.{length}
+use Rattle.rules.specs.Sum.{sumTo, firstAt}
+use Rattle.rules.specs.Sets.{has, union}
+use Rattle.rules.specs.Excess.{groupBudget, capacity, groupCapacity, Exceeds, Smallest}
+use Rattle.rules.specs.Tests.{badFrame, badCores, badTasks, badMask, badBudget, tested}
+use Rattle.rules.specs.Plan.{at, limit}
+use Rattle.rules.specs.Settled.{Only, Holds, overloads, refuses}
+use Rattle.rules.specs.declared.Answer.the-variants.{Overloaded, Budget}
+use Rattle.rules.proofs.Computed.{greatestTest, smallestTest, smallest-computed, sameTest, same-computed}
+use Rattle.rules.proofs.Settled.Sets.{Alloc, Passes, overloaded-only, refused-only}
+
+pass2 : Passes 10 2 (8 ∷ 8 ∷ 3 ∷ []) (0b01 ∷ 0b01 ∷ 0b10 ∷ [])
+unfolding tested badFrame badCores badTasks badMask badBudget firstAt
+pass2 before roomy = rw roomy
+
+none2 : (x : ℕ → ℕ → ℕ) → Alloc 10 2 (8 ∷ 8 ∷ 3 ∷ []) (0b01 ∷ 0b01 ∷ 0b10 ∷ []) x → ⊥
+unfolding sumTo has
+none2 x a =
+    let a01 : x 0 1 ≡ 0 = a .inside 0 (lit< tt) 1 (lit< tt) refl in
+    let a11 : x 1 1 ≡ 0 = a .inside 1 (lit< tt) 1 (lit< tt) refl in
+    let r0 : 0 + x 0 0 + x 0 1 ≡ 8 = a .exact 0 (lit< tt) in
+    let r1 : 0 + x 1 0 + x 1 1 ≡ 8 = a .exact 1 (lit< tt) in
+    let c0 : 0 + x 0 0 + x 1 0 + x 2 0 ≤ 10 = a .within 0 (lit< tt) in
+    omega arith
+
+smallest2 : Smallest 3 2 (limit 10 2 (8 ∷ 8 ∷ 3 ∷ []) (0b01 ∷ 0b01 ∷ 0b10 ∷ [])) (at (8 ∷ 8 ∷ 3 ∷ [])) (at (0b01 ∷ 0b01 ∷ 0b10 ∷ [])) 0b011
+unfolding sumTo has union groupBudget capacity groupCapacity greatestTest smallestTest
+smallest2 = smallest-computed 3 2 _ _ _ 0b011 (lit< tt) tt tt
+
+pub p2 : Holds (overloads 10 2 (8 ∷ 8 ∷ 3 ∷ []) (0b01 ∷ 0b01 ∷ 0b10 ∷ []) 0b011 0b01 6)
+unfolding sumTo has union groupBudget capacity groupCapacity Exceeds sameTest
+p2 = (overloaded-only 10 2 (8 ∷ 8 ∷ 3 ∷ []) (0b01 ∷ 0b01 ∷ 0b10 ∷ []) 0b011 0b01 pass2 none2 smallest2 (lit< tt) refl (same-computed 3 0b011 tt), smallest2, refl, refl)
+
+pass3 : Passes 10 2 (6 ∷ 6 ∷ 10 ∷ []) (0b01 ∷ 0b01 ∷ 0b10 ∷ [])
+unfolding tested badFrame badCores badTasks badMask badBudget firstAt
+pass3 before roomy = rw roomy
+
+none3 : (x : ℕ → ℕ → ℕ) → Alloc 10 2 (6 ∷ 6 ∷ 10 ∷ []) (0b01 ∷ 0b01 ∷ 0b10 ∷ []) x → ⊥
+unfolding sumTo has
+none3 x a =
+    let a01 : x 0 1 ≡ 0 = a .inside 0 (lit< tt) 1 (lit< tt) refl in
+    let a11 : x 1 1 ≡ 0 = a .inside 1 (lit< tt) 1 (lit< tt) refl in
+    let r0 : 0 + x 0 0 + x 0 1 ≡ 6 = a .exact 0 (lit< tt) in
+    let r1 : 0 + x 1 0 + x 1 1 ≡ 6 = a .exact 1 (lit< tt) in
+    let c0 : 0 + x 0 0 + x 1 0 + x 2 0 ≤ 10 = a .within 0 (lit< tt) in
+    omega arith
+
+smallest3 : Smallest 3 2 (limit 10 2 (6 ∷ 6 ∷ 10 ∷ []) (0b01 ∷ 0b01 ∷ 0b10 ∷ [])) (at (6 ∷ 6 ∷ 10 ∷ [])) (at (0b01 ∷ 0b01 ∷ 0b10 ∷ [])) 0b011
+unfolding sumTo has union groupBudget capacity groupCapacity greatestTest smallestTest
+smallest3 = smallest-computed 3 2 _ _ _ 0b011 (lit< tt) tt tt
+
+pub p3 : Holds (overloads 10 2 (6 ∷ 6 ∷ 10 ∷ []) (0b01 ∷ 0b01 ∷ 0b10 ∷ []) 0b011 0b01 2)
+unfolding sumTo has union groupBudget capacity groupCapacity Exceeds sameTest
+p3 = (overloaded-only 10 2 (6 ∷ 6 ∷ 10 ∷ []) (0b01 ∷ 0b01 ∷ 0b10 ∷ []) 0b011 0b01 pass3 none3 smallest3 (lit< tt) refl (same-computed 3 0b011 tt), smallest3, refl, refl)
+
+pass6 : Passes 10 1 (5 ∷ 6 ∷ []) (0b1 ∷ 0b1 ∷ [])
+unfolding tested badFrame badCores badTasks badMask badBudget firstAt
+pass6 before roomy = rw roomy
+
+none6 : (x : ℕ → ℕ → ℕ) → Alloc 10 1 (5 ∷ 6 ∷ []) (0b1 ∷ 0b1 ∷ []) x → ⊥
+unfolding sumTo has
+none6 x a =
+    let r0 : 0 + x 0 0 ≡ 5 = a .exact 0 (lit< tt) in
+    let r1 : 0 + x 1 0 ≡ 6 = a .exact 1 (lit< tt) in
+    let c0 : 0 + x 0 0 + x 1 0 ≤ 10 = a .within 0 (lit< tt) in
+    omega arith
+
+smallest6 : Smallest 2 1 (limit 10 1 (5 ∷ 6 ∷ []) (0b1 ∷ 0b1 ∷ [])) (at (5 ∷ 6 ∷ [])) (at (0b1 ∷ 0b1 ∷ [])) 0b11
+unfolding sumTo has union groupBudget capacity groupCapacity greatestTest smallestTest
+smallest6 = smallest-computed 2 1 _ _ _ 0b11 (lit< tt) tt tt
+
+pub p6 : Holds (overloads 10 1 (5 ∷ 6 ∷ []) (0b1 ∷ 0b1 ∷ []) 0b11 0b1 1)
+unfolding sumTo has union groupBudget capacity groupCapacity Exceeds sameTest
+p6 = (overloaded-only 10 1 (5 ∷ 6 ∷ []) (0b1 ∷ 0b1 ∷ []) 0b11 0b1 pass6 none6 smallest6 (lit< tt) refl (same-computed 2 0b11 tt), smallest6, refl, refl)
+
+pub p4 : Holds (refuses 10 2 (11 ∷ []) (0b11 ∷ []) (Budget 0))
+unfolding tested badFrame badCores badTasks badMask badBudget firstAt
+p4 = refused-only 10 2 (11 ∷ []) (0b11 ∷ []) (Budget 0) (λ before. refl)

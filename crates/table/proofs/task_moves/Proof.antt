@@ -1,0 +1,69 @@
+-- `table::task_moves` meets its contract: each need is answered by a law of the crate's proofs.
+-- Assumes nothing.
+use Prim.Native.Nat.{_-_}
+use native.Mathlib.Omega.{arith}
+use Rattle.table.proofs.Moves.{Counting, counting-none, counting-first, end-fits, counting-less, counting-fits, counting-more, counting-done}
+use borrow.Author.Needs.{needs}
+use Rattle.table.proofs.task_moves.Statement.{statement}
+use Rattle.table.proofs.task_moves.Tie as tie
+
+abbrev Inv-loop : tie.InvT-loop
+Inv-loop table task n from₀ k₀ core₀ count₀ from k core count = Counting table task core from count k
+
+abbrev μ-loop : tie.MeasureT-loop
+μ-loop table task n from₀ k₀ core₀ count₀ from k core count = 1000000 - from
+
+next-piece-requires : tie.Need-next-piece-requires Inv-loop μ-loop
+next-piece-requires c κs = search needs
+
+returns : tie.Need-returns Inv-loop μ-loop
+returns c = (search (counting-none, needs), search needs)
+
+piece-at-requires : tie.Need-piece-at-requires Inv-loop μ-loop
+piece-at-requires c κs = search needs
+
+loop-holds : tie.Need-loop-holds Inv-loop μ-loop
+loop-holds c = search (counting-first, needs)
+
+piece-at-requires-2 : tie.Need-piece-at-requires-2 Inv-loop μ-loop
+piece-at-requires-2 c κs = search needs
+
+changed-requires : tie.Need-changed-requires Inv-loop μ-loop
+changed-requires c κs = search needs
+
+add-count : tie.Need-add-count Inv-loop μ-loop
+add-count c = record { fits = search (counting-fits, needs) }
+
+add-from : tie.Need-add-from Inv-loop μ-loop
+add-from c = record { fits = search (end-fits, needs) }
+
+next-piece-requires-2 : tie.Need-next-piece-requires-2 Inv-loop μ-loop
+next-piece-requires-2 c κs = search needs
+
+loop-less : tie.Need-loop-less Inv-loop μ-loop
+loop-less c = search (counting-less, needs)
+
+loop-again : tie.Need-loop-again Inv-loop μ-loop
+loop-again c = search (counting-more, needs)
+
+returns-2 : tie.Need-returns-2 Inv-loop μ-loop
+returns-2 c = counting-done _ _ (c .before .before .before .before .before .before .pre) _ _ _ _ (c .before .loop .inv) (c .loop-test .left)
+
+pub task-moves-spec : {M : Type 1} → statement M
+task-moves-spec =
+    tie.close
+    (tie.spec
+    Inv-loop
+    μ-loop
+    next-piece-requires
+    returns
+    piece-at-requires
+    loop-holds
+    piece-at-requires-2
+    changed-requires
+    add-count
+    add-from
+    next-piece-requires-2
+    loop-less
+    loop-again
+    returns-2)

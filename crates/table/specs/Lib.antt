@@ -1,0 +1,5 @@
+pub mod All
+pub mod Read
+pub mod Next
+pub mod Framed
+pub mod Sizes

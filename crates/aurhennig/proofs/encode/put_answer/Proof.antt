@@ -1,0 +1,39 @@
+-- `aurhennig::encode::put_answer` meets its contract.
+-- Assumes nothing.
+use Rattle.aurhennig.proofs.AnswerLaws.{answer-put}
+use borrow.Author.Needs.{needs}
+use Rattle.aurhennig.proofs.encode.put_answer.Statement.{statement}
+use Rattle.aurhennig.proofs.encode.put_answer.Tie as tie
+
+number-requires : tie.Need-number-requires
+number-requires c κs = search needs
+
+cast-put-field : tie.Need-cast-put-field
+cast-put-field c = search needs
+
+put-field-requires : tie.Need-put-field-requires
+put-field-requires c κs = search needs
+
+put-rest-requires : tie.Need-put-rest-requires
+put-rest-requires c κs = search needs
+
+same-length : tie.Need-same-length
+same-length c = search needs
+
+returns : tie.Need-returns
+returns c =
+    let rest = c .before .before in
+    let number = rest .before .before .before .before in
+    let start = number .before .before .before .before .before in
+    answer-put (start .args .answer) _ _ _ _ _ _ (number .before .number .ensures) (start .pre .0) (number .put-field .ensures) (rest .put-rest .ensures)
+
+pub put-answer-spec : {M : Type 1} → statement M
+put-answer-spec =
+    tie.close
+    (tie.spec
+    number-requires
+    cast-put-field
+    put-field-requires
+    put-rest-requires
+    same-length
+    returns)

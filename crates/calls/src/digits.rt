@@ -22,7 +22,7 @@ fn is_digit(b: u8) -> bool {
     }
 }
 
-// The value of a digit; 0 for a byte that is none, which a line test refuses before.
+// The value of a digit, below 16, so the remainder leaves it; 0 for a byte that is none, which `all_digits` refuses before.
 pub(crate) fn digit_value(b: u8) -> u64
     ensures { λ r. ⌜ r < 16 ⌝ }
 {

@@ -1,23 +1,21 @@
 -- Allocations that agree on the first n tasks and m cores have the same walk and the same table.
 -- Assumes nothing.
 use mathlib.Core.Path.{_≡_, refl, sym, _∙_, ap, ap₂}
-use mathlib.Core.Bool.{Bool, true, false, cond}
-use mathlib.Core.List.{List, [], _∷_, _++_}
-use Prim.Native.Nat.{ℕ, zero, suc, _+_, _-_, _*_, _%_, _≤_, _<_}
-use native.Mathlib.Nat.{le-refl, le-trans, not-suc-le-zero}
-use native.Mathlib.Decide.{ℕ-discrete, decLt, decLe}
+use mathlib.Core.Bool.{cond}
+use mathlib.Core.List.{_++_}
+use Prim.Native.Nat.{ℕ, zero, suc, _+_, _*_, _%_, _≤_, _<_}
+use native.Mathlib.Nat.{le-refl}
+use native.Mathlib.Decide.{ℕ-discrete, decLt}
 use native.Mathlib.Omega.{arith}
 use lib.Dec.{eqb}
-use Rattle.rules.specs.Sum.{sumTo, put}
-use Rattle.rules.specs.Piece.{Piece}
-use Rattle.rules.specs.Layout.{Walk, ahead, stretch, begun, reachOne, reach, meetMark, meetOne, meet, visitMark, visit, waiting, unvisited, nextCore, visits, layout}
+use Rattle.rules.specs.Sum.{put}
+use Rattle.rules.specs.Layout.{Walk, ahead, stretch, reachOne, reach, meetMark, meetOne, meet, visitMark, visit, waiting, unvisited, nextCore, visits, layout}
 use Rattle.rules.specs.Table.{cut, insertAll, piecesOn, coreTo, coresTo}
 use Rattle.sums.proofs.Sum.{sum-cong}
 use Rattle.planner.specs.Certificate.{Peeled}
 use Rattle.planner.specs.Small.{Small}
 use Rattle.planner.specs.Walking.{Bounded}
-use Rattle.planner.proofs.Reaching.{moved, one-none, one-here, one-moved, meet-none, meet-old, meet-fresh, zero-of}
-use Rattle.planner.proofs.Ahead.{ahead-first, ahead-rest}
+use Rattle.planner.proofs.Reaching.{one-none, one-here, one-moved, meet-none, meet-old, meet-fresh, zero-of}
 use Rattle.planner.proofs.LaidOut.{next-core, visits-state}
 use Rattle.planner.proofs.Bounds.{bounded-meet, bounded-mark, bounded-visits}
 use Rattle.planner.proofs.Parts.{pieces-none, pieces-some}

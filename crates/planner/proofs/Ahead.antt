@@ -2,16 +2,15 @@
 -- after another, and a task, whose stretches follow each other over its cores.
 -- Assumes nothing.
 use mathlib.Core.Path.{_≡_, refl, sym, _∙_, ap}
-use mathlib.Core.Bool.{Bool, true, false, cond}
 use mathlib.Core.Logic.{_⊎_, inl, inr, ⊎-elim}
 use Prim.Native.Nat.{ℕ, zero, suc, _+_, _*_, _≤_, _<_}
-use native.Mathlib.Nat.{le-refl, mul-le-mul-right, suc-mul}
-use native.Mathlib.Decide.{ℕ-discrete, decLt, decLe}
+use native.Mathlib.Nat.{mul-le-mul-right, suc-mul}
+use native.Mathlib.Decide.{ℕ-discrete, decLt}
 use native.Mathlib.Omega.{arith}
 use borrow.Author.Tests.{eq-eqb, ne-eqb}
 use Rattle.rules.specs.Sum.{sumTo, put}
 use Rattle.rules.specs.Layout.{Walk, ahead, stretch}
-use Rattle.sums.proofs.Sum.{put-same, put-other, sum-put, sum-term, sum-mono}
+use Rattle.sums.proofs.Sum.{put-other, sum-put, sum-term, sum-mono}
 use Rattle.planner.proofs.Growing.{Laid}
 
 pub ahead-first : (q : ℕ) (f : ℕ → ℕ) (i : ℕ) → i ≡ q → ahead (suc q) f i ≡ 0

@@ -1,18 +1,17 @@
 -- The starts of a walk stay small: a task that is met adds at most what its core and its own row hold.
 -- Assumes nothing.
-use mathlib.Core.Path.{_≡_, refl, sym, _∙_, ap}
+use mathlib.Core.Path.{_≡_}
 use Prim.Native.Nat.{ℕ, zero, suc, _+_, _*_, _≤_, _<_}
-use native.Mathlib.Nat.{le-refl, le-trans, not-suc-le-zero}
+use native.Mathlib.Nat.{le-refl, le-trans}
 use native.Mathlib.Decide.{ℕ-discrete, decLt}
 use native.Mathlib.Omega.{arith}
-use Rattle.rules.specs.Sum.{sumTo, put}
-use Rattle.rules.specs.Layout.{Walk, ahead, stretch, begun, reach, meetMark, meetOne, meet, visitMark, visit, nextCore, visits, layout}
+use Rattle.rules.specs.Layout.{Walk, stretch, begun, reach, meetMark, meetOne, meet, visitMark, visit, nextCore, visits}
 use Rattle.planner.specs.Certificate.{Peeled}
 use Rattle.planner.specs.Small.{Small}
 use Rattle.planner.specs.Walking.{Bounded}
-use Rattle.planner.proofs.Reaching.{SameAt, Come, reach-come, reach-same, meet-none, meet-old, meet-fresh, zero-of}
+use Rattle.planner.proofs.Reaching.{SameAt, reach-come, reach-same, meet-none, meet-old, meet-fresh, zero-of}
 use Rattle.planner.proofs.Ahead.{ahead-ends}
-use Rattle.planner.proofs.LaidOut.{State, next-core, visits-state}
+use Rattle.planner.proofs.LaidOut.{next-core, visits-state}
 
 pub bounded-more : {n b c : ℕ} {w : Walk} → b ≤ c → Bounded n b w → Bounded n c w
 bounded-more l h = record { starts = λ k. le-trans (h .starts k) l; firsts = h .firsts }

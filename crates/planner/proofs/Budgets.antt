@@ -3,10 +3,10 @@
 -- Assumes nothing.
 use mathlib.Core.Path.{_≡_, refl, sym, _∙_, ap, ap₂}
 use mathlib.Core.Bool.{Bool, true, false, cond, _&&_}
-use mathlib.Core.List.{List, [], _∷_, _++_}
-use mathlib.Core.Logic.{_⊎_, inl, inr, ⊎-elim}
-use Prim.Native.Nat.{ℕ, zero, suc, _+_, _-_, _*_, _%_, _≤_, _<_, min}
-use native.Mathlib.Nat.{le-refl, not-suc-le-zero, mod-eq-of-lt, mod-lt}
+use mathlib.Core.List.{List, [], _∷_}
+use mathlib.Core.Logic.{⊎-elim}
+use Prim.Native.Nat.{ℕ, zero, suc, _+_, _-_, _%_, _≤_, _<_, min}
+use native.Mathlib.Nat.{not-suc-le-zero, mod-eq-of-lt, mod-lt}
 use native.Mathlib.Decide.{ℕ-discrete, decLt, decLe}
 use native.Mathlib.Omega.{arith}
 use lib.Dec.{eqb, leb, ltb}
@@ -14,7 +14,7 @@ use borrow.Author.Tests.{eq-eqb, ne-eqb, lt-ltb, le-ltb, le-leb, lt-leb}
 use Rattle.rules.specs.Sum.{sumTo}
 use Rattle.rules.specs.Piece.{Piece}
 use Rattle.rules.specs.Layout.{Walk, stretch}
-use Rattle.rules.specs.Table.{cut, insertAll, piecesOn, coreTo, coresTo}
+use Rattle.rules.specs.Table.{cut, piecesOn, coreTo, coresTo}
 use Rattle.rules.specs.Service.{covers, covered, unit, units}
 use Rattle.sums.proofs.Sum.{sum-cong, sum-zero, sum-add}
 use Rattle.planner.proofs.Reaching.{zero-of}

@@ -1,26 +1,26 @@
 -- How many pieces a table has: one for each task on each core, and one more a core, since two stretches of a core cannot both cross the
 -- end of a frame. Document 01: "n + 2 × m − 1".
 -- Assumes nothing.
-use mathlib.Core.Path.{_≡_, refl, sym, _∙_, ap, ap₂}
-use mathlib.Core.Bool.{Bool, true, false, cond}
-use mathlib.Core.List.{List, [], _∷_, _++_}
-use mathlib.Core.Logic.{_⊎_, inl, inr, ⊎-elim}
-use Prim.Native.Nat.{ℕ, zero, suc, _+_, _-_, _*_, _/_, _%_, _≤_, _<_}
+use mathlib.Core.Path.{_≡_, refl, sym, _∙_, ap₂}
+use mathlib.Core.Bool.{cond}
+use mathlib.Core.List.{List}
+use mathlib.Core.Logic.{⊎-elim}
+use Prim.Native.Nat.{ℕ, zero, suc, _+_, _*_, _/_, _%_, _≤_, _<_}
 use native.Mathlib.Nat.{le-refl, le-trans, not-suc-le-zero, div-add-mod', mod-lt, suc-mul, mul-le-mul-right}
 use native.Mathlib.Decide.{ℕ-discrete, decLt, decLe}
 use native.Mathlib.Omega.{arith}
-use lib.Dec.{eqb, leb, ltb}
+use lib.Dec.{ltb}
 use lib.ListN.{length, length-append}
-use borrow.Author.Tests.{eq-eqb, ne-eqb, lt-ltb, le-ltb}
+use borrow.Author.Tests.{lt-ltb, le-ltb}
 use Rattle.rules.specs.Sum.{sumTo, positive}
 use Rattle.rules.specs.Piece.{Piece}
-use Rattle.rules.specs.Layout.{Walk, ahead, stretch}
-use Rattle.rules.specs.Table.{cut, insertAll, piecesOn, coreTo, coresTo}
-use Rattle.sums.proofs.Sum.{sum-cong, sum-le, sum-zero, sum-add, sum-const, sum-swap, sum-mono, positive-le, positive-of}
+use Rattle.rules.specs.Layout.{Walk, stretch}
+use Rattle.rules.specs.Table.{insertAll, piecesOn, coreTo, coresTo}
+use Rattle.sums.proofs.Sum.{sum-cong, sum-const, sum-swap, sum-mono, positive-le, positive-of}
 use Rattle.planner.specs.Certificate.{Peeled}
 use Rattle.planner.proofs.Forest.{edges, sparse, sum-at-most-one}
 use Rattle.planner.proofs.Reaching.{zero-of}
-use Rattle.planner.proofs.PieceLists.{total, total-append, total-insert-all, total-length}
+use Rattle.planner.proofs.PieceLists.{total-insert-all, total-length}
 use Rattle.planner.proofs.Parts.{cut-fits, cut-crosses, pieces-none, pieces-some}
 use Rattle.planner.proofs.Ahead.{ahead-ends, ahead-apart}
 

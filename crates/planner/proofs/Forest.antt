@@ -1,19 +1,18 @@
 -- A graph of units that can be taken apart leaf by leaf has no cycle, and few edges: document 01, "Allocation and overload", "Then the
 -- extra assignments .. are at most m − 1".
 -- Assumes nothing.
-use mathlib.Core.Path.{_≡_, refl, sym, _∙_, ap, ap₂}
-use mathlib.Core.Bool.{Bool, true, false, cond}
-use mathlib.Core.Logic.{_⊎_, inl, inr, ⊎-elim}
+use mathlib.Core.Path.{_≡_, refl, sym, _∙_, ap}
+use mathlib.Core.Bool.{cond}
 use Prim.Native.Nat.{ℕ, zero, suc, _+_, _-_, _*_, _≤_, _<_}
-use native.Mathlib.Nat.{le-refl, le-trans, not-suc-le-zero, mul-one, one-mul, zero-mul, mul-zero, mul-add, mul-comm, mul-pos, mul-le-mul-right}
-use native.Mathlib.Decide.{ℕ-discrete, decLt, decLe}
+use native.Mathlib.Nat.{le-refl, le-trans, not-suc-le-zero, mul-one, zero-mul, mul-zero, mul-comm, mul-pos, mul-le-mul-right}
+use native.Mathlib.Decide.{decLt, decLe}
 use native.Mathlib.Omega.{arith}
 use borrow.Author.Tests.{lt-ltb, le-ltb}
 use lib.Dec.{ltb}
 use Rattle.rules.specs.Sum.{sumTo, positive}
 use Rattle.rules.specs.Loops.{Cycle, LoopFree}
 use Rattle.rules.specs.Extra.{coresOf, extra}
-use Rattle.sums.proofs.Sum.{sum-cong, sum-le, sum-zero, sum-add, sum-const, sum-swap, sum-term, sum-lt, sum-some, positive-le, positive-of}
+use Rattle.sums.proofs.Sum.{sum-cong, sum-le, sum-zero, sum-add, sum-const, sum-swap, sum-lt, positive-le, positive-of}
 use Rattle.planner.specs.Certificate.{Peeled}
 
 -- where a function is least

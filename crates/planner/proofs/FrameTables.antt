@@ -1,32 +1,32 @@
 -- The table that an allocation fixes is a frame table with the exact budgets, on allowed cores, of at most n + 2m - 1 pieces.
 -- Assumes nothing.
-use mathlib.Core.Path.{_≡_, refl, sym, _∙_, ap, ap₂}
-use mathlib.Core.Bool.{Bool, true, false, cond, not, _&&_, _||_}
-use mathlib.Core.List.{List, [], _∷_, _++_}
-use mathlib.Core.Logic.{_⊎_, inl, inr, ⊎-elim}
-use Prim.Native.Nat.{ℕ, zero, suc, _+_, _-_, _*_, _%_, _≤_, _<_}
+use mathlib.Core.Path.{_≡_, refl, sym, _∙_}
+use mathlib.Core.Bool.{Bool, true, false, _&&_}
+use mathlib.Core.List.{List, [], _∷_}
+use mathlib.Core.Logic.{⊎-elim}
+use Prim.Native.Nat.{ℕ, _+_, _*_, _≤_, _<_}
 use native.Mathlib.Nat.{le-refl, le-trans}
-use native.Mathlib.Decide.{ℕ-discrete, decLt, decLe}
+use native.Mathlib.Decide.{ℕ-discrete}
 use native.Mathlib.Omega.{arith}
-use lib.Dec.{eqb, leb, ltb}
+use lib.Dec.{ltb}
 use lib.ListN.{length}
-use borrow.Author.Tests.{eq-eqb, ne-eqb, lt-ltb, le-ltb, le-leb, lt-leb}
+use borrow.Author.Tests.{eq-eqb, ne-eqb, lt-ltb, le-ltb, le-leb}
 use Rattle.rules.specs.Sizes.{maxPieces, maxTasks}
 use Rattle.rules.specs.Sum.{sumTo}
-use Rattle.rules.specs.Piece.{Piece, piecesOf, numbersOf}
+use Rattle.rules.specs.Piece.{Piece, numbersOf}
 use Rattle.rules.specs.Layout.{Walk, layout}
 use Rattle.rules.specs.Table.{cells, cellAt, coreTo, coresTo, tableOfCells, tableOf}
-use Rattle.rules.specs.FrameTable.{every, everyTwo, sound, ordered, overlap, coreApart, taskApart, framePieces, frameTable}
+use Rattle.rules.specs.FrameTable.{everyTwo, sound, ordered, overlap, coreApart, taskApart, framePieces, frameTable}
 use Rattle.rules.specs.Service.{units}
 use Rattle.sums.proofs.Sum.{sum-cong, sum-term}
 use Rattle.planner.specs.Ready.{Ready}
 use Rattle.planner.proofs.LaidOut.{laid-out, layout-firsts}
-use Rattle.planner.proofs.PieceLists.{Every, Pairs, every-map, every-true, pairs-map, pairs-true, total}
+use Rattle.planner.proofs.PieceLists.{Every, Pairs, every-map, every-true, pairs-map, pairs-true}
 use Rattle.planner.proofs.Parts.{Away, Clear, InOrder, Both, Part, PartBelow, cores-parts, cores-both}
 use Rattle.planner.proofs.Counts.{cores-at-most, part-at-most}
 use Rattle.planner.proofs.Numbers.{pieces-of-numbers, numbers-whole}
 use Rattle.planner.proofs.Cells.{cell-at, ready-same}
-use Rattle.planner.proofs.Budgets.{weight, Inside, units-are-weight, cores-weight}
+use Rattle.planner.proofs.Budgets.{Inside, units-are-weight, cores-weight}
 
 and-false : (a : Bool) {b : Bool} → b ≡ false → (a && b) ≡ false
 and-false true e = e

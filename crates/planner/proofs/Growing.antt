@@ -1,17 +1,17 @@
 -- The walk of specs/Layout.antt over a peeled graph reaches no core twice: the vertices of the tree that is being walked would have too many
 -- edges. So what a met task fixed stays fixed.
 -- Assumes nothing.
-use mathlib.Core.Path.{_≡_, refl, sym, _∙_, ap, ap₂}
+use mathlib.Core.Path.{_≡_, sym, _∙_, ap}
 use Prim.Native.Nat.{ℕ, zero, suc, _+_, _-_, _*_, _≤_, _<_}
-use native.Mathlib.Nat.{le-refl, le-trans, not-suc-le-zero, mul-le-mul, one-mul, mul-one, zero-mul, mul-zero}
-use native.Mathlib.Decide.{ℕ-discrete, decLt, decLe}
+use native.Mathlib.Nat.{le-refl, le-trans, not-suc-le-zero, mul-le-mul, one-mul, zero-mul}
+use native.Mathlib.Decide.{ℕ-discrete, decLt}
 use native.Mathlib.Omega.{arith}
 use Rattle.rules.specs.Sum.{sumTo, put, positive}
-use Rattle.rules.specs.Layout.{Walk, ahead, stretch, reachOne, reach, meetMark, meetOne, meet}
-use Rattle.sums.proofs.Sum.{put-same, put-other, sum-cong, sum-le, sum-zero, sum-add, sum-put, sum-term, sum-lt, positive-le, positive-of}
+use Rattle.rules.specs.Layout.{Walk, ahead, stretch, reach, meetMark}
+use Rattle.sums.proofs.Sum.{put-same, put-other, sum-cong, sum-le, sum-zero, sum-add, sum-put, sum-term, sum-lt, positive-of}
 use Rattle.planner.specs.Certificate.{Peeled}
 use Rattle.planner.proofs.Forest.{edges, sparse}
-use Rattle.planner.proofs.Reaching.{SameAt, same-refl, same-trans, Come, pred-of, zero-of, reach-rest, reach-come, reach-same}
+use Rattle.planner.proofs.Reaching.{SameAt, same-trans, Come, zero-of, reach-rest, reach-come, reach-same}
 
 -- terms at most: the sum grows by at least as much as one term
 pub sum-gain : (n k : ℕ) (f g : ℕ → ℕ) → ((i : ℕ) → i < n → f i ≤ g i) → k < n → sumTo n f + g k ≤ sumTo n g + f k

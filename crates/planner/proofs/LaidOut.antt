@@ -1,62 +1,23 @@
 -- After m visits every core was visited, and each task with units was laid out from the core where it was met: one equation between the two
 -- readings of where a stretch starts, that of its core and that of its task.
 -- Assumes nothing.
-use mathlib.Core.Path.{_≡_, refl, sym, _∙_, ap, ap₂, fun-ext}
-use mathlib.Core.Bool.{Bool, true, false, cond}
+use mathlib.Core.Path.{_≡_, refl, sym, _∙_, ap, fun-ext}
+use mathlib.Core.Bool.{Bool, false, cond}
 use mathlib.Core.Logic.{_⊎_, inl, inr, ⊎-elim}
-use Prim.Native.Nat.{ℕ, zero, suc, _+_, _-_, _*_, _≤_, _<_}
+use Prim.Native.Nat.{ℕ, zero, suc, _-_, _*_, _≤_, _<_}
 use native.Mathlib.Nat.{le-refl, le-trans, not-suc-le-zero, mul-one, sub-self}
-use native.Mathlib.Decide.{ℕ-discrete, decLt, decLe}
+use native.Mathlib.Decide.{ℕ-discrete, decLt}
 use native.Mathlib.Omega.{arith}
-use lib.Dec.{eqb, ltb}
-use borrow.Author.Tests.{eq-eqb, ne-eqb, lt-ltb, le-ltb}
+use lib.Dec.{eqb}
+use borrow.Author.Tests.{ne-eqb, lt-ltb, le-ltb}
 use Rattle.rules.specs.Sum.{sumTo, put, lowest}
-use Rattle.rules.specs.Layout.{Walk, ahead, begun, stretch, reach, meetMark, meetOne, meet, visitMark, visit, waiting, unvisited, nextCore, visits, layout}
-use Rattle.sums.proofs.Sum.{put-same, put-other, sum-cong, sum-le, sum-zero, sum-put, sum-term, sum-count, sum-tight, sum-const}
+use Rattle.rules.specs.Layout.{Walk, begun, meetOne, meet, visitMark, visit, waiting, unvisited, nextCore, visits, layout}
+use Rattle.sums.proofs.Sum.{put-same, put-other, sum-le, sum-zero, sum-put, sum-tight, sum-const}
 use Rattle.planner.specs.Certificate.{Peeled}
-use Rattle.planner.proofs.Forest.{edges, left-pos, right-pos}
-use Rattle.planner.proofs.Reaching.{SameAt, same-refl, same-trans, pred-of, zero-of, meet-none, meet-old, meet-fresh}
-use Rattle.planner.proofs.Growing.{Laid, Kept, kept-trans, Growing, newTasks, newCores, laid-kept, after, after-visited, after-kept, after-met-more, after-met-here, after-growing}
-
--- the lowest number where f is not 0: f is not 0 there, and without one f is 0 everywhere
-pub lowest-hit : (n : ℕ) (f : ℕ → ℕ) → lowest n f < n → 0 < f (lowest n f)
-unfolding lowest
-lowest-hit zero f h = absurd (not-suc-le-zero h)
-lowest-hit (suc n) f h =
-    elim (decLt (lowest n f) n) [
-      | yes l ↦ rw (lt-ltb (lowest n f) n l, lowest) (lowest-hit n f l)
-      | no g ↦
-          elim (decLt 0 (f n)) [
-            | yes s ↦ let b = pred-of (f n) s in rw (le-ltb (lowest n f) n (omega arith), lowest, b .1, lowest) s
-            | no z ↦ absurd (omega (arith, past n f (omega arith) (zero-of z)))
-          ]
-    ]
-  where
-    past : (n : ℕ) (f : ℕ → ℕ) → n ≤ lowest n f → f n ≡ 0 → lowest (suc n) f ≡ suc n
-    past n f g z = rw (le-ltb (lowest n f) n g, lowest, z, lowest)
-
-pub lowest-none : (n : ℕ) (f : ℕ → ℕ) → n ≤ lowest n f → (i : ℕ) → i < n → f i ≡ 0
-unfolding lowest
-lowest-none zero f h i l = absurd (not-suc-le-zero l)
-lowest-none (suc n) f h i l =
-    elim (decLt (lowest n f) n) [
-      | yes s ↦ absurd (omega (arith, found n f s))
-      | no g ↦
-          elim (decLt 0 (f n)) [
-            | yes s ↦ absurd (omega (arith, here n f (omega arith) s))
-            | no z ↦
-                elim (ℕ-discrete i n) [
-                  | yes e ↦ rw e (zero-of z)
-                  | no ne ↦ lowest-none n f (omega arith) i (omega arith)
-                ]
-          ]
-    ]
-  where
-    found : (n : ℕ) (f : ℕ → ℕ) → lowest n f < n → lowest (suc n) f ≡ lowest n f
-    found n f s = rw (lt-ltb (lowest n f) n s, lowest)
-
-    here : (n : ℕ) (f : ℕ → ℕ) → n ≤ lowest n f → 0 < f n → lowest (suc n) f ≡ n
-    here n f g s = let b = pred-of (f n) s in rw (le-ltb (lowest n f) n g, lowest, b .1, lowest)
+use Rattle.planner.proofs.Forest.{left-pos, right-pos}
+use Rattle.planner.proofs.Lowest.{lowest-hit, lowest-none}
+use Rattle.planner.proofs.Reaching.{same-refl, zero-of, meet-none, meet-old, meet-fresh}
+use Rattle.planner.proofs.Growing.{Laid, Kept, kept-trans, Growing, newTasks, newCores, laid-kept, after-visited, after-kept, after-met-more, after-met-here, after-growing}
 
 module _ (n m : ℕ) (x : ℕ → ℕ → ℕ) where
   -- a part of a visit

@@ -1,16 +1,13 @@
 -- The pieces of a core, task by task, as the code lays them.
 -- Assumes nothing.
 use mathlib.Core.Path.{_≡_, refl, sym, _∙_, ap, ap₂, subst}
-use mathlib.Core.List.{List, [], _∷_, _++_, append-assoc}
-use Prim.Native.Nat.{ℕ, zero, suc, _+_, _-_, _*_, _/_, _%_, _≤_, _<_}
-use native.Mathlib.Nat.{le-refl, le-trans, not-suc-le-zero, mod-lt}
+use mathlib.Core.List.{List, _++_, append-assoc}
+use Prim.Native.Nat.{ℕ, zero, suc, _+_, _*_, _%_, _≤_, _<_}
+use native.Mathlib.Nat.{le-refl, le-trans, mod-lt}
 use native.Mathlib.Numerals.{add-one}
-use native.Mathlib.Decide.{ℕ-discrete, decLt, decLe}
 use native.Mathlib.Omega.{arith}
-use lib.ListN.{length, getD, take, drop, length-append}
+use lib.ListN.{length, getD, drop, length-append}
 use lib.Seq.{drop-drop}
-use mir.Val.{Fits}
-use mir.Syntax.{w32}
 use Rattle.rules.specs.Sum.{sumTo, positive}
 use Rattle.rules.specs.Piece.{Piece, numbersOf}
 use Rattle.rules.specs.Layout.{Walk, ahead, stretch}
@@ -20,7 +17,7 @@ use Rattle.planner.specs.Certificate.{cell}
 use Rattle.planner.specs.Pieces.{alone, taskPieces, corePieces, startsOf, coresPieces, Inserts, Appends, OnCore, OnCores}
 use Rattle.planner.proofs.Parts.{pieces-none, pieces-some}
 use Rattle.planner.proofs.Counts.{length-insert-all, length-core, crosses, part-at-most}
-use Rattle.planner.proofs.Numbers.{length-numbers, numbers-append}
+use Rattle.planner.proofs.Numbers.{numbers-append}
 
 module _ (F n : ℕ) (units : List ℕ) (core start first : ℕ) (g : OnCore F n units core start first) where
   pub task-none : (from count task : ℕ) (l : List ℕ) → cell units task core ≡ 0

@@ -1,5 +1,6 @@
 pub mod Forest
 pub mod Reaching
+pub mod Lowest
 pub mod Growing
 pub mod LaidOut
 pub mod Ahead

@@ -1,11 +1,11 @@
 -- A list of pieces written out as numbers is read back as it was.
 -- Assumes nothing.
-use mathlib.Core.Path.{_≡_, refl, sym, _∙_, ap, ap₂}
+use mathlib.Core.Path.{_≡_, refl, _∙_, ap, ap₂}
 use mathlib.Core.List.{List, [], _∷_, _++_}
-use Prim.Native.Nat.{ℕ, zero, suc, _+_, _*_, _/_, _%_, _≤_, _<_}
+use Prim.Native.Nat.{ℕ, zero, suc, _+_, _*_, _/_, _%_}
 use native.Mathlib.Nat.{mul-div-cancel-left, mul-mod-right}
 use native.Mathlib.Omega.{arith}
-use lib.ListN.{length, getD}
+use lib.ListN.{length}
 use Rattle.rules.specs.Piece.{Piece, pieceAt, firstPieces, piecesOf, numbersOf}
 
 pub length-numbers : (ps : List Piece) → length (numbersOf ps) ≡ 4 * length ps

@@ -1,16 +1,15 @@
 -- The walk and the pieces of all cores make the table of the allocation.
 -- Assumes nothing.
-use mathlib.Core.Path.{_≡_, refl, sym, _∙_, ap, ap₂, subst}
-use mathlib.Core.List.{List, [], _∷_, _++_}
-use Prim.Native.Nat.{ℕ, zero, suc, _+_, _*_, _/_, _≤_, _<_}
+use mathlib.Core.Path.{_≡_, refl, sym, _∙_, ap, subst}
+use mathlib.Core.List.{List, _++_}
+use Prim.Native.Nat.{ℕ, _+_, _*_, _/_, _≤_, _<_}
 use native.Mathlib.Nat.{le-refl, le-trans}
 use native.Mathlib.Omega.{arith}
-use lib.ListN.{length, getD, drop, replicate}
-use Rattle.rules.specs.Sum.{sumTo}
+use lib.ListN.{length, drop}
 use Rattle.rules.specs.Piece.{Piece, numbersOf}
-use Rattle.rules.specs.Layout.{Walk, visits, layout}
+use Rattle.rules.specs.Layout.{Walk, layout}
 use Rattle.rules.specs.Table.{coresTo, tableOf}
-use Rattle.planner.specs.Certificate.{cell, Peeled}
+use Rattle.planner.specs.Certificate.{cell}
 use Rattle.planner.specs.Ready.{Ready}
 use Rattle.planner.specs.Small.{Small}
 use Rattle.planner.specs.Walking.{walkOf, Kept, Bounded}

@@ -1,21 +1,17 @@
 -- Each piece of the table is a part of its task's stretch on its core, and two pieces of one core or of one task are apart.
 -- Assumes nothing.
-use mathlib.Core.Path.{_≡_, refl, sym, _∙_, ap}
-use mathlib.Core.Bool.{Bool, true, false, not, _&&_, _||_}
-use mathlib.Core.List.{List, [], _∷_, _++_}
+use mathlib.Core.Path.{_≡_, refl, sym, _∙_}
+use mathlib.Core.List.{List, [], _∷_}
 use mathlib.Core.Logic.{_⊎_, inl, inr, ⊎-elim}
 use Prim.Native.Nat.{ℕ, zero, suc, _+_, _-_, _*_, _/_, _%_, _≤_, _<_}
-use native.Mathlib.Nat.{le-refl, le-trans, not-suc-le-zero, div-add-mod', mod-lt, suc-mul}
-use native.Mathlib.Decide.{ℕ-discrete, decLt, decLe}
+use native.Mathlib.Nat.{le-refl, div-add-mod', mod-lt, suc-mul}
+use native.Mathlib.Decide.{decLt, decLe}
 use native.Mathlib.Omega.{arith}
-use lib.Dec.{eqb, leb, ltb}
-use borrow.Author.Tests.{eq-eqb, ne-eqb, lt-ltb, le-ltb, le-leb, lt-leb}
+use borrow.Author.Tests.{le-leb, lt-leb}
 use Rattle.rules.specs.Sum.{sumTo}
 use Rattle.rules.specs.Piece.{Piece}
-use Rattle.rules.specs.Moves.{insert}
-use Rattle.rules.specs.Layout.{Walk, ahead, stretch}
-use Rattle.rules.specs.Table.{cut, insertAll, piecesOn, coreTo, coresTo}
-use Rattle.rules.specs.FrameTable.{every, everyTwo, sound, ordered, overlap, coreApart, taskApart}
+use Rattle.rules.specs.Layout.{Walk, stretch}
+use Rattle.rules.specs.Table.{cut, piecesOn, coreTo, coresTo}
 use Rattle.sums.proofs.Sum.{sum-term}
 use Rattle.planner.proofs.Reaching.{pred-of, zero-of}
 use Rattle.planner.proofs.Growing.{Laid}

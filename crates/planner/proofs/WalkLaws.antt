@@ -1,17 +1,17 @@
 -- The code's steps are those of the walk.
 -- Assumes nothing.
 use mathlib.Core.Path.{_≡_, refl, sym, _∙_, ap, ap₂, subst, fun-ext}
-use mathlib.Core.List.{List, [], _∷_}
-use Prim.Native.Nat.{ℕ, zero, suc, _+_, _-_, _*_, _^_, _≤_, _<_}
-use native.Mathlib.Nat.{le-refl, le-trans, one-mul, mul-one, mul-zero, zero-mul, not-suc-le-zero}
+use mathlib.Core.List.{List}
+use Prim.Native.Nat.{ℕ, suc, _+_, _-_, _*_, _^_, _≤_, _<_}
+use native.Mathlib.Nat.{one-mul, mul-one, mul-zero, zero-mul}
 use native.Mathlib.Numerals.{add-one}
 use native.Mathlib.Decide.{ℕ-discrete, decLt}
 use native.Mathlib.Omega.{arith}
 use lib.Bits.{bitOr}
-use lib.Dec.{eqb, ltb}
+use lib.Dec.{eqb}
 use borrow.Author.Tests.{eq-eqb, ne-eqb, lt-ltb, le-ltb}
-use mathlib.Core.Bool.{Bool, true, false, cond}
-use lib.ListN.{length, getD, set, length-set, replicate, length-replicate, getD-replicate, List·getD-eq-default}
+use mathlib.Core.Bool.{cond}
+use lib.ListN.{length, getD, set, length-set, replicate, getD-replicate, List·getD-eq-default}
 use lib.Seq.{getD-set-same, getD-set-other}
 use mir.Val.{Fits}
 use mir.Syntax.{w32}
@@ -22,11 +22,12 @@ use Rattle.sums.proofs.Sum.{put-same, put-other}
 use Rattle.sums.proofs.Sets.{has-with, has-none, has-le-one}
 use Rattle.planner.specs.Certificate.{cell, Peeled}
 use Rattle.planner.specs.Small.{Small}
-use Rattle.planner.specs.Walking.{walkOf, Kept, Bounded, Reaching, Meeting}
+use Rattle.planner.specs.Walking.{walkOf, Kept, Reaching, Meeting}
 use Rattle.planner.specs.declared.walking.Marks.{Marks}
-use Rattle.planner.proofs.LaidOut.{lowest-none, next-core, visits-state}
+use Rattle.planner.proofs.LaidOut.{next-core, visits-state}
+use Rattle.planner.proofs.Lowest.{lowest-none, lowest-more, lowest-found, lowest-same}
 use Rattle.planner.proofs.Bounds.{bounded-more, bounded-meet, bounded-visits}
-use Rattle.planner.proofs.Reaching.{one-none, one-here, one-moved, meet-none, meet-old, meet-fresh, zero-of, pred-of}
+use Rattle.planner.proofs.Reaching.{one-none, one-here, one-moved, meet-none, meet-old, meet-fresh}
 
 -- an entry stored is the function with that value there
 pub get-set : (l : List ℕ) (k v : ℕ) → k < length l → (λ (i : ℕ). getD (set l k v) i 0) ≡ put k v (λ i. getD l i 0)
@@ -190,69 +191,6 @@ module _ (n m : ℕ) (units : List ℕ) (core : ℕ) where
 
       marked : walkOf (record { visited = v; reached = r; met = s .met }) start first ≡ visitMark n m (cell units) core (walkOf s start first)
       marked = λ i. record { visited = with-one (s .visited) v e i; reached = with-one (s .reached) r d i; met = has (s .met); start = λ j. getD start j 0; first = λ j. getD first j 0 }
-
--- the first place where f is not 0, as a loop finds it
-module _ (f : ℕ → ℕ) where
-  pub lowest-begin : lowest 0 f ≡ 0
-  unfolding lowest
-  lowest-begin = refl
-
-  pub lowest-more : (j : ℕ) → lowest j f ≡ j → f j ≡ 0 → lowest (j + 1) f ≡ j + 1
-  unfolding lowest
-  lowest-more j e z = rw (add-one j) (rw (le-ltb (lowest j f) j (omega arith), lowest, z, lowest))
-
-  lowest-here : (j : ℕ) → lowest j f ≡ j → 0 < f j → lowest (suc j) f ≡ j
-  unfolding lowest
-  lowest-here j e h = let b = pred-of (f j) h in rw (le-ltb (lowest j f) j (omega arith), lowest, b .1, lowest)
-
-  lowest-stays : (n j : ℕ) → j ≤ n → lowest j f < j → lowest n f ≡ lowest j f
-  unfolding lowest
-  lowest-stays zero j l h = absurd (omega arith)
-  lowest-stays (suc n) j l h =
-      elim (ℕ-discrete j (suc n)) [
-        | yes e ↦ ap (λ (k : ℕ). lowest k f) (sym e)
-        | no ne ↦
-            let r = lowest-stays n j (omega arith) h in
-            below n (omega arith) ∙ r
-      ]
-    where
-      below : (n : ℕ) → lowest n f < n → lowest (suc n) f ≡ lowest n f
-      below n h = rw (lt-ltb (lowest n f) n h, lowest)
-
-  pub lowest-found : (n j : ℕ) → j < n → lowest j f ≡ j → 0 < f j → j ≡ lowest n f
-  lowest-found n j l e h = let s = lowest-here j e h in sym (lowest-stays n (suc j) l (omega arith) ∙ s)
-
-  pub lowest-ended : (n j : ℕ) → j ≤ n → n ≤ j → lowest j f ≡ j → j ≡ lowest n f
-  lowest-ended n j a b e = sym e ∙ ap (λ (k : ℕ). lowest k f) (meets a b)
-    where
-      meets : {k m : ℕ} → k ≤ m → m ≤ k → k ≡ m
-      meets a b = omega arith
-
-keep-low : (n : ℕ) (f : ℕ → ℕ) → lowest n f < n → lowest (suc n) f ≡ lowest n f
-unfolding lowest
-keep-low n f h = rw (lt-ltb (lowest n f) n h, lowest)
-
-hit-low : (n : ℕ) (f : ℕ → ℕ) → n ≤ lowest n f → 0 < f n → lowest (suc n) f ≡ n
-unfolding lowest
-hit-low n f g h = let b = pred-of (f n) h in rw (le-ltb (lowest n f) n g, lowest, b .1, lowest)
-
-miss-low : (n : ℕ) (f : ℕ → ℕ) → n ≤ lowest n f → f n ≡ 0 → lowest (suc n) f ≡ suc n
-unfolding lowest
-miss-low n f g z = rw (le-ltb (lowest n f) n g, lowest, z, lowest)
-
-lowest-same : (n : ℕ) (f g : ℕ → ℕ) → ((i : ℕ) → i < n → f i ≡ g i) → lowest n f ≡ lowest n g
-unfolding lowest
-lowest-same zero f g h = refl
-lowest-same (suc n) f g h =
-    let r = lowest-same n f g (λ i l. h i (omega arith)) in
-    elim (decLt (lowest n g) n) [
-      | yes l ↦ keep-low n f (omega arith) ∙ r ∙ sym (keep-low n g l)
-      | no k ↦
-          elim (decLt 0 (g n)) [
-            | yes p ↦ hit-low n f (omega arith) (rw (h n (omega arith)) p) ∙ sym (hit-low n g (omega arith) p)
-            | no z ↦ miss-low n f (omega arith) (h n (omega arith) ∙ zero-of z) ∙ sym (miss-low n g (omega arith) (zero-of z))
-          ]
-    ]
 
 -- the cores of a set that were not visited
 abbrev pub leftOf : ℕ → ℕ → ℕ → ℕ

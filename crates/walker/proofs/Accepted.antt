@@ -1,0 +1,80 @@
+-- What an accepted walk says: the tests passed, and each place holds its job's finish. The bound and a worked call follow.
+-- Assumes nothing.
+use mathlib.Core.Path.{_≡_, refl, sym, _∙_, ap, ap₂}
+use mathlib.Core.Bool.{Bool, true, false, cond, _&&_, _||_, true≢false}
+use mathlib.Core.List.{List, [], _∷_}
+use Prim.Native.Nat.{ℕ, zero, suc, _+_, _-_, _*_, _%_, _≤_, _<_, max}
+use native.Mathlib.Nat.{le-refl, not-suc-le-zero}
+use native.Mathlib.Decide.{ℕ-discrete, decLe}
+use native.Mathlib.Omega.{arith}
+use lib.Dec.{eqb, leb, ltb}
+use lib.ListN.{length, getD}
+use borrow.Author.Tests.{eqb-false}
+use Rattle.rules.specs.Tests.{Tested, refused, passed, badFrame, badCores}
+use Rattle.rules.specs.Sum.{sumTo, lowest}
+use Rattle.rules.specs.Piece.{Piece, piecesOf, firstPieces}
+use Rattle.rules.specs.FrameTable.{every, everyTwo, sound, ordered, overlap, coreApart, taskApart, framePieces, frameTable}
+use Rattle.rules.specs.Service.{covers, covered, unit, units}
+use Rattle.rules.specs.Finish.{Finish, Finishes, beginOf}
+use Rattle.rules.specs.Jobs.{badJobCount, early, badJob, firstBadJob, firstAsking}
+use Rattle.rules.specs.Walked.{walkTested, WalkRefusal, WalkDone, WalkAnswerAt, WalkAnswer}
+use Rattle.rules.specs.declared.Answer.{Answer}
+use Rattle.rules.specs.declared.Answer.the-variants.{Accepted, FrameLength, CoreCount, NotTable, JobList, NoUnits, ShortFinishes}
+use Rattle.walker.specs.Jobs.{accepts}
+use Rattle.walker.proofs.Bound.{units-mono, finish-by-release-plus-period-plus-frame, finish-by-release-plus-period}
+
+module _ (F m : ℕ) (table : List ℕ) (task : ℕ) (releases jobs before : List ℕ) (r : Answer) (after : List ℕ)
+    (answer : WalkAnswer F m table task releases jobs before r after) (yes-answer : r ≡ Accepted) where
+  never : (a : Answer) → accepts a ≡ false → WalkRefusal a before r after → ⊥
+  never a e w = true≢false (sym (ap accepts (sym (w .answer) ∙ yes-answer)) ∙ e)
+
+  -- a refusal carries another answer, so each test passed
+  go : (b c f j k u n : Bool) (x y : Answer) → accepts x ≡ false → accepts y ≡ false
+      → WalkAnswerAt (cond b (refused FrameLength) (cond c (refused CoreCount) (cond f (cond j (refused (JobList 0)) (cond k (refused x) (cond u (refused y) (cond n (refused ShortFinishes) passed)))) (refused NotTable)))) F table task releases jobs before r after
+      → ((b ≡ false) × (c ≡ false) × (f ≡ true)) × WalkDone F table task releases jobs before r after
+  go true c f j k u n x y p q w = absurd (never FrameLength refl w)
+  go false true f j k u n x y p q w = absurd (never CoreCount refl w)
+  go false false false j k u n x y p q w = absurd (never NotTable refl w)
+  go false false true true k u n x y p q w = absurd (never (JobList 0) refl w)
+  go false false true false true u n x y p q w = absurd (never x p w)
+  go false false true false false true n x y p q w = absurd (never y q w)
+  go false false true false false false true x y p q w = absurd (never ShortFinishes refl w)
+  go false false true false false false false x y p q w = ((refl, refl, refl), w)
+
+  all : ((badFrame F ≡ false) × (badCores m ≡ false) × (frameTable F m table ≡ true)) × WalkDone F table task releases jobs before r after
+  unfolding walkTested
+  all =
+      go (badFrame F) (badCores m) (frameTable F m table) (badJobCount releases jobs) (ltb (firstBadJob releases jobs) (length releases))
+      (eqb (units F (piecesOf table) task F) 0 && ltb (firstAsking jobs) (length jobs)) (ltb (length before) (length releases))
+      (JobList (firstBadJob releases jobs)) (NoUnits (firstAsking jobs)) refl refl answer
+
+  pub accepted-frame : 1 ≤ F
+  unfolding badFrame
+  accepted-frame = above (eqb-false _ _ (left (eqb F 0) (ltb 1000000 F) (all .0 .0)))
+    where
+      left : (a b : Bool) → (a || b) ≡ false → a ≡ false
+      left true b h = absurd (true≢false h)
+      left false b h = refl
+
+      above : (F ≡ 0 → ⊥) → 1 ≤ F
+      above h = omega arith
+
+  pub accepted-table : frameTable F m table ≡ true
+  accepted-table = all .0 .2
+
+  pub accepted-done : WalkDone F table task releases jobs before r after
+  accepted-done = all .1
+
+  -- the bound, over what walk hands back
+  module _ (T c : ℕ) (enough : c * F ≤ units F (piecesOf table) task F * T)
+      (apart : (k : ℕ) → suc k < length releases → getD releases k 0 + T ≤ getD releases (suc k) 0)
+      (small : (k : ℕ) → k < length releases → getD jobs k 0 ≤ c) where
+    pub walked-finish-by-release-plus-period-plus-frame : (k : ℕ) → k < length releases → getD after k 0 ≤ getD releases k 0 + T + F
+    walked-finish-by-release-plus-period-plus-frame =
+        finish-by-release-plus-period-plus-frame F (piecesOf table) task T c (length releases) (λ k. getD releases k 0) (λ k. getD jobs k 0) (λ k. getD after k 0)
+        accepted-frame enough apart small (accepted-done .finishes)
+
+    pub walked-finish-by-release-plus-period : (q : ℕ) → T ≡ q * F → (k : ℕ) → k < length releases → getD after k 0 ≤ getD releases k 0 + T
+    walked-finish-by-release-plus-period q e =
+        finish-by-release-plus-period F (piecesOf table) task T c (length releases) (λ k. getD releases k 0) (λ k. getD jobs k 0) (λ k. getD after k 0)
+        accepted-frame enough q e apart small (accepted-done .finishes)

@@ -1,0 +1,14 @@
+pub mod Periodic
+pub mod Units
+pub mod Loops
+pub mod Finish
+pub mod Covered
+pub mod Gathering
+pub mod Jobs
+pub mod Steps
+pub mod Walking
+pub mod Unique
+pub mod Bound
+pub mod Accepted
+pub mod Examples
+pub mod Isolation

@@ -1,0 +1,5 @@
+pub mod Served
+pub mod Least
+pub mod Step
+pub mod Gathered
+pub mod Jobs

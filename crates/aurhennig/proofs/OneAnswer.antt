@@ -1,7 +1,7 @@
 -- The line call leaves open only what plan leaves open: where any two answers that the rules allow for the decoded set are equal,
 -- any two that they allow for the line call are equal.
 -- Assumes nothing.
-use mathlib.Core.Path.{_≡_, refl, sym, _∙_, ap}
+use mathlib.Core.Path.{_≡_, sym, _∙_, ap}
 use mathlib.Core.Bool.{Bool, true, false}
 use mathlib.Core.List.{List, _++_}
 use Prim.Native.Nat.{ℕ}
@@ -10,7 +10,7 @@ use lib.ListN.{length, drop}
 use Rattle.rules.specs.Piece.{firstPieces}
 use Rattle.rules.specs.Plan.{PlanAnswer}
 use Rattle.rules.specs.Line.{lineFrame, lineCores, lineBudgets, lineMasks, wellWritten, answerLine}
-use Rattle.rules.specs.LineCall.{lentTable, LinePlanned, LineAnswerAt, LineAnswer, CallDone, CallAnswerAt, CallAnswer}
+use Rattle.rules.specs.LineCall.{lentTable, LineAnswerAt, LineAnswer, CallAnswerAt, CallAnswer}
 use Rattle.rules.specs.declared.Planned.{Planned}
 
 -- any two answers of plan for the set of a line are equal

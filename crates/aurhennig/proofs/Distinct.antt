@@ -20,7 +20,7 @@ at-read : (l xs ys : List ℕ) (p c v : ℕ) → l ≡ xs ++ (digits c v ++ ys) 
 at-read l xs ys p c v e g h = simp (e, ← g) (digits-read c v xs ys h)
 
 -- a line's first byte is the answer's number
-number-back : (a : Answer) (ps : List Piece) → digitsAt (answerLine a ps) 0 2 ≡ numberOf a
+pub number-back : (a : Answer) (ps : List Piece) → digitsAt (answerLine a ps) 0 2 ≡ numberOf a
 unfolding answerLine
 number-back a ps = at-read (answerLine a ps) [] (answerRest a ps) 0 2 (numberOf a) refl refl (small a)
   where

@@ -1,16 +1,30 @@
-# make run: prove, build and show the answers. make test: the gate, whose last line is 'N passed, 0 failed'.
+# make run: prove, build, plan the sample sets and print the answers. make test: the gate, whose last line is 'N passed, 0 failed'.
 # make compare: random lines through the compiled programs and the second program; SEED=.. and COUNT=.. may be given.
 KIT := rattle-kit-5b logic 064da1ca440f63e7
+CC ?= cc
 
-.PHONY: run test compare kit
+.PHONY: run test compare executive bench kit plan
 
 kit:
 	@command -v rt >/dev/null || { echo "rt is missing: install the Rattle kit ($(KIT)) and put its bin/ on PATH"; exit 1; }
 	@found="$$(rt version)"; test "$$found" = "$(KIT)" || echo "note: this kit is '$$found'; the proofs were last seen with '$(KIT)'"
 
-run: kit
-	@rt check | tail -n 1
-	@cat examples/settled.txt
+plan: kit
+	@mkdir -p target && rt check plan >target/plan.log || { tail -n 20 target/plan.log; exit 1; }
+	@tail -n 1 target/plan.log
+
+# each set's line and the answer under it; examples/sets.txt says what each is
+run: plan
+	@target/bin/plan <examples/sets.hex >target/sets.out
+	@paste -d '\n' examples/sets.hex target/sets.out
+
+executive: kit
+	@mkdir -p target && rt staticlib aurhennig >target/staticlib.log || { tail -n 20 target/staticlib.log; exit 1; }
+	@$(CC) -O2 -Wall -Wextra -Iinclude -o target/executive examples/executive.c target/staticlib/libaurhennig.a
+	@target/executive
+
+bench: executive plan
+	@bench/run
 
 test: kit
 	@second/judge-stored

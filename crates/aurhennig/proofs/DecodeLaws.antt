@@ -1,16 +1,16 @@
 -- Laws on a decoded line: the line test, the fields before the tasks, and the tasks' fields.
 -- Assumes nothing.
 use mathlib.Core.Path.{_≡_, refl, sym, subst, _∙_, ap}
-use mathlib.Core.Bool.{Bool, true, false, cond, _&&_}
-use mathlib.Core.List.{List, [], _∷_, _++_, append-assoc}
-use Prim.Native.Nat.{ℕ, zero, suc, _+_, _-_, _*_, _/_, _%_, _^_, _≤_, _<_}
+use mathlib.Core.Bool.{Bool, true, false, _&&_}
+use mathlib.Core.List.{List, _++_, append-assoc}
+use Prim.Native.Nat.{ℕ, zero, suc, _+_, _*_, _%_, _^_, _≤_, _<_}
 use native.Mathlib.Numerals.{add-one, unary-clauses}
 use native.Mathlib.Omega.{arith}
-use lib.Dec.{leb, ltb, eqb}
-use lib.ListN.{length, getD, take, drop, set, length-append, drop-of-length-le}
+use lib.Dec.{leb, eqb}
+use lib.ListN.{length, getD, drop, set, length-append, drop-of-length-le}
 use lib.Seq.{drop-cons, set-at}
 use borrow.Author.Tests.{le-leb, lt-leb, eq-eqb, ne-eqb, eqb-true}
-use Rattle.rules.specs.Line.{isDigit, digitsAt, field, lineFrame, lineCores, lineTasks, taskFields, allDigits, wellWritten}
+use Rattle.rules.specs.Line.{isDigit, field, lineFrame, lineCores, lineTasks, taskFields, allDigits, wellWritten}
 use Rattle.aurhennig.specs.Held.{heldField}
 use Rattle.aurhennig.specs.Three.{threeAt}
 use Rattle.aurhennig.specs.Decoded.{Tasked}
@@ -142,7 +142,3 @@ module _ (l : List ℕ) (e : wellWritten l ≡ true) where
 
   pub written-long : 12 ≤ length l
   written-long = omega (arith, written-length)
-
--- a byte's number
-pub tasks-below : (l : List ℕ) → lineTasks l < 256
-tasks-below l = digits-below l 10 2

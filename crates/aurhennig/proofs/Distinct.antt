@@ -4,7 +4,6 @@ use mathlib.Core.Path.{_≡_, refl, sym, _∙_, ap}
 use mathlib.Core.Bool.{cond}
 use mathlib.Core.List.{List, [], _∷_, _++_, append-assoc, append-nil}
 use Prim.Native.Nat.{ℕ, zero, suc, _+_, _^_, _<_}
-use native.Mathlib.Numerals.{unary-clauses}
 use native.Mathlib.Omega.{arith}
 use lib.Dec.{eqb}
 use lib.ListN.{length, length-append}
@@ -21,7 +20,7 @@ at-read : (l xs ys : List ℕ) (p c v : ℕ) → l ≡ xs ++ (digits c v ++ ys) 
 at-read l xs ys p c v e g h = simp (e, ← g) (digits-read c v xs ys h)
 
 -- a line's first byte is the answer's number
-number-back : (a : Answer) (ps : List Piece) → digitsAt (answerLine a ps) 0 2 ≡ numberOf a
+pub number-back : (a : Answer) (ps : List Piece) → digitsAt (answerLine a ps) 0 2 ≡ numberOf a
 unfolding answerLine
 number-back a ps = at-read (answerLine a ps) [] (answerRest a ps) 0 2 (numberOf a) refl refl (small a)
   where

@@ -9,3 +9,4 @@ pub mod PieceLaws
 pub mod AnswerLaws
 pub mod CallLaws
 pub mod OneAnswer
+pub mod NeverSix

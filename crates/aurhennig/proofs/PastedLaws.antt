@@ -1,12 +1,12 @@
 -- Laws on bytes written into an output: digits from the last to the first, and one run of bytes after another.
 -- Assumes nothing.
 use mathlib.Core.Path.{_≡_, refl, sym, _∙_, ap}
-use mathlib.Core.List.{List, [], _∷_, _++_, append-assoc, append-nil}
-use Prim.Native.Nat.{ℕ, zero, suc, _+_, _-_, _*_, _/_, _%_, _≤_, _<_}
-use native.Mathlib.Numerals.{add-one, unary-clauses}
+use mathlib.Core.List.{List, [], _∷_, _++_, append-assoc}
+use Prim.Native.Nat.{ℕ, zero, suc, _+_, _-_, _/_, _%_, _≤_, _<_}
+use native.Mathlib.Numerals.{unary-clauses}
 use native.Mathlib.Nat.{add-assoc, zero-add}
 use native.Mathlib.Omega.{arith}
-use lib.ListN.{length, getD, take, drop, set, length-set, length-append, length-drop, length-take, take-append-drop}
+use lib.ListN.{length, take, drop, set, length-set, length-append, length-take, take-append-drop}
 use lib.Seq.{take-set-le, drop-cons, drop-set-lt, getD-set-same, drop-append-add, drop-drop, take-at}
 use Rattle.rules.specs.Line.{digitOf, digits}
 use Rattle.aurhennig.specs.Pasted.{pasted}
@@ -50,11 +50,6 @@ module _ (o w : List ℕ) (p i v : ℕ) (same : written o p i v ≡ w) where
     where
       none : i ≤ 0 → 0 ≡ i
       none h = omega arith
-
--- what a paste keeps
-pub length-pasted : (o : List ℕ) (p : ℕ) (l : List ℕ) → p + length l ≤ length o → length (pasted o p l) ≡ length o
-unfolding pasted
-length-pasted o p l h = simp (length-append, length-take, length-drop) (omega arith)
 
 -- one run of bytes after another
 split-front : (x r b : List ℕ) (k : ℕ) → length x ≡ k → take k (x ++ r) ++ (b ++ drop (k + length b) (x ++ r)) ≡ x ++ (b ++ drop (length b) r)

@@ -2,12 +2,12 @@
 -- Assumes nothing.
 use mathlib.Core.Path.{_≡_, refl, sym, _∙_, ap}
 use mathlib.Core.List.{List, [], _∷_, _++_, append-assoc, append-nil}
-use Prim.Native.Nat.{ℕ, zero, suc, _+_, _-_, _*_, _≤_, _<_}
+use Prim.Native.Nat.{ℕ, zero, suc, _+_, _*_, _≤_}
 use native.Mathlib.Numerals.{add-one, unary-clauses}
 use native.Mathlib.Omega.{arith}
 use lib.ListN.{length, getD, length-append}
 use Rattle.rules.specs.Piece.{Piece, pieceAt, firstPieces}
-use Rattle.rules.specs.Line.{bytes, pieceLine, pieceLines, answerRest, answerLine}
+use Rattle.rules.specs.Line.{bytes, pieceLine, pieceLines}
 use Rattle.aurhennig.specs.Pasted.{pasted}
 use Rattle.aurhennig.proofs.PastedLaws.{length-digits, pasted-twice, pasted-none}
 

@@ -1,6 +1,6 @@
 -- A set written as a line: "In: F (4 bytes), m (1), n (1), then per task budget (4) and mask (2)", and when its numbers fit their fields.
 -- Assumes nothing.
-use Prim.Native.Nat.{ℕ, _^_, _≤_, _<_}
+use Prim.Native.Nat.{ℕ, _^_, _<_}
 use mathlib.Core.Path.{_≡_}
 use mathlib.Core.List.{List, [], _∷_, _++_}
 use lib.ListN.{length, getD}

@@ -2,10 +2,9 @@
 use crate::digits::is_digit;
 use crate::reader::take_three;
 ghost use mathlib.Core.Path.{_≡_};
-ghost use mathlib.Core.Bool.{true};
 ghost use Prim.Native.Nat.{_+_, _*_, _≤_, _<_};
-ghost use lib.ListN.{length, drop};
-ghost use Rattle.rules.specs.Line.{allDigits, lineCores, lineFrame, lineTasks, taskFields, wellWritten};
+ghost use lib.ListN.{length};
+ghost use Rattle.rules.specs.Line.{allDigits, wellWritten};
 ghost use Rattle.aurhennig.specs.Decoded.{Headed, Tasked};
 
 // The fields before the tasks.

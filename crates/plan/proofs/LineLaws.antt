@@ -1,22 +1,20 @@
 -- Laws on the program's step: the bytes that are kept of a line, its answer line in the output, and a text taken byte by byte.
 -- Assumes nothing.
 use mathlib.Core.Path.{_≡_, refl, sym, subst, _∙_, ap}
-use mathlib.Core.Bool.{Bool, true, false}
+use mathlib.Core.Bool.{Bool}
 use mathlib.Core.List.{List, [], _∷_, _++_, append-assoc}
-use Prim.Native.Nat.{ℕ, suc, _+_, _-_, _*_, _≤_, _<_, min}
+use Prim.Native.Nat.{ℕ, suc, _+_, _-_, _*_, _≤_, _<_}
 use native.Mathlib.Decide.{decLe}
 use native.Mathlib.Numerals.{add-one, unary-clauses}
 use native.Mathlib.Omega.{arith}
-use lib.Dec.{ltb}
 use lib.ListN.{length, getD, take, drop, set, length-append, length-take, length-drop, take-append-drop}
 use lib.Seq.{take-suc-set, take-all, take-append-le, drop-append-le, drop-drop, drop-cons, set-at, take-suc}
 use borrow.Author.Tests.{le-ltb}
-use Rattle.rules.specs.Line.{wellWritten}
 use Rattle.rules.specs.LineCall.{LineAnswerAt, LineAnswer, CallDone, CallAnswerAt, CallAnswer}
 use Rattle.aurhennig.specs.Pasted.{pasted}
 use Rattle.aurhennig.proofs.DecodeLaws.{line-long}
 use Rattle.aurhennig.proofs.PastedLaws.{pasted-none, pasted-twice}
-use Rattle.plan.specs.Lines.{Step, kept, ended, Lines, none, more, Holds, Kept, AnsweredLine, Answered, TookByte, FedLine}
+use Rattle.plan.specs.Lines.{kept, ended, Lines, none, more, Holds, AnsweredLine, Answered, TookByte, FedLine}
 
 -- nothing is kept of a line that has not begun
 pub holds-none : (buffer : List ℕ) → Holds buffer 0 []

@@ -1,8 +1,6 @@
 // The bytes of the input taken one after another: a line is kept until its line feed comes, and then its answer line is written.
 // Of a line that is too long the first 3,073 bytes are kept: they are refused as the whole line is.
-ghost use mathlib.Core.Path.{_≡_};
-ghost use mathlib.Core.List.{List, []};
-ghost use Prim.Native.Nat.{ℕ, _+_, _≤_, min};
+ghost use Prim.Native.Nat.{_+_, _≤_};
 ghost use lib.ListN.{length};
 ghost use Rattle.plan.specs.Lines.{Answered, Fed, Kept, Took};
 

@@ -180,3 +180,28 @@ module _ (F m : ℕ) (budgets masks before : List ℕ) (r q : Planned) (after la
 
   pub plan-answers-agree : PlanAnswer F m budgets masks before r after → PlanAnswer F m budgets masks before q later → Agree r q after later
   plan-answers-agree u v = answers-at (tested F m budgets masks before) u v
+
+-- a set that passed the tests 1 to 6 is refused exactly when it is overloaded
+module _ (F m : ℕ) (budgets masks before : List ℕ) (r : Planned) (after : List ℕ) where
+  Over : Type 0
+  Over = Overload (length budgets) m (limit F m budgets masks) (at budgets) (at masks)
+
+  differ : (g c : ℕ) → r .answer ≡ Accepted → r .answer ≡ Overloaded g c → ⊥
+  differ g c p q = let z : _≡_ {A = ℕ} 0 1 = cc in omega arith
+
+  accepted-fits : Decided F m budgets masks before r after → r .answer ≡ Accepted → Over → ⊥
+  unfolding Over
+  accepted-fits (planned x p) e o = overloaded-exactly-without-allocation .0 o x (p .allocation)
+  accepted-fits (overloaded g p) e o = differ g (union (length budgets) (at masks) g) e (p .refusal .answer)
+
+  fitting-accepted : Decided F m budgets masks before r after → (Over → ⊥) → r .answer ≡ Accepted
+  unfolding Over
+  fitting-accepted (planned x p) h = p .answer
+  fitting-accepted (overloaded g p) h = absurd (h (overload-stands F m budgets masks before r after g p))
+
+  pub accepted-exactly-without-overload : tested F m budgets masks before ≡ passed → PlanAnswer F m budgets masks before r after
+      → (r .answer ≡ Accepted → Overload (length budgets) m (limit F m budgets masks) (at budgets) (at masks) → ⊥) ×
+      ((Overload (length budgets) m (limit F m budgets masks) (at budgets) (at masks) → ⊥) → r .answer ≡ Accepted)
+  unfolding Over
+  accepted-exactly-without-overload pass h =
+      let d = subst (λ (t : Tested). PlanAnswerAt t F m budgets masks before r after) pass h in (accepted-fits d, fitting-accepted d)

@@ -3,3 +3,4 @@ pub mod OneTask
 pub mod Computed
 pub mod Settled
 pub mod Values
+pub mod Unique

@@ -42,9 +42,7 @@ use denote.Triple.Walked.{says, needs, Stays, stay-none, stay-none-slice, walkOf
 use denote.Exit.{yes}
 use denote.Triple.Clauses.{ensured, lasts}
 use Rattle.aurhennig.specs.Held.{heldField}
-use Rattle.aurhennig.specs.Three.{threeAt}
 use Rattle.aurhennig.specs.declared.reader.Reader.{Reader}
-use Rattle.aurhennig.specs.declared.reader.Three.{Three}
 use Rattle.aurhennig.proofs.DecodeLaws.{three-made}
 use Rattle.aurhennig.proofs.reader.Reader as T
 use Rattle.aurhennig.proofs.reader.Reader.Laws as T′

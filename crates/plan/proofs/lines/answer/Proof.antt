@@ -3,7 +3,7 @@
 use mathlib.Core.Path.{refl}
 use Prim.Native.Nat.{_+_, _-_}
 use native.Mathlib.Omega.{arith}
-use lib.ListN.{length, length-take}
+use lib.ListN.{length-take}
 use Rattle.plan.proofs.LineLaws.{wrote-few, answered}
 use borrow.Author.Needs.{needs}
 use Rattle.plan.proofs.lines.answer.Statement.{statement}

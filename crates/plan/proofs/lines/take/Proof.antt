@@ -1,6 +1,5 @@
 -- `plan::lines::take` meets its contract.
 -- Assumes nothing.
-use mathlib.Core.Path.{refl}
 use native.Mathlib.Omega.{arith}
 use Rattle.plan.proofs.LineLaws.{took-end, took-byte}
 use borrow.Author.Needs.{needs}

@@ -24,11 +24,12 @@ executive: kit
 	@target/executive
 
 bench: executive plan
+	@rt check calls >target/calls.log || { tail -n 20 target/calls.log; exit 1; }
 	@bench/run
 
 test: kit
 	@second/judge-stored
 	@rt ci
 
-compare:
+compare: kit
 	@second/compare "$(COUNT)" "$(SEED)"

@@ -1,13 +1,15 @@
 //! Times the plain flow on full sets and, when the planner's archive is
-//! linked, the planner's line call on the same sets.
+//! linked, the planner's line call on the same sets; then the programs.
 
 mod flow;
 #[cfg(line_call)]
 mod line_call;
+mod programs;
 mod sets;
 mod times;
 
 use sets::{full, Masks, Random, Set};
+use std::path::Path;
 use std::process::ExitCode;
 use times::{micros, Times};
 
@@ -28,6 +30,10 @@ fn main() -> ExitCode {
             eprintln!("flow: {name} masks: {why}");
             return ExitCode::from(1);
         }
+    }
+    if let Err(why) = programs::measure(Path::new("..")) {
+        eprintln!("flow: {why}");
+        return ExitCode::from(1);
     }
     ExitCode::SUCCESS
 }

@@ -21,10 +21,7 @@ use Rattle.aurhennig.specs.Pasted.{pasted}
 use Rattle.aurhennig.specs.Decoded.{Tasked}
 use Rattle.aurhennig.proofs.PastedLaws.{pasted-front}
 use Rattle.aurhennig.proofs.DecodeLaws.{length-tasks}
-
-length-numbers : (ps : List Piece) → length (numbersOf ps) ≡ 4 * length ps
-length-numbers [] = refl
-length-numbers (p ∷ ps) = simp (length-numbers ps, unary-clauses) (omega arith)
+use Rattle.rules.proofs.Numbers.{length-numbers}
 
 -- the pieces of any answer that the rules allow fit the lent table, as it keeps its length
 module _ (F m : ℕ) (bs ms t₀ : List ℕ) (r : Planned) (t : List ℕ) (same : length t ≡ length t₀) where

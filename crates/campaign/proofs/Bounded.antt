@@ -19,10 +19,7 @@ use Rattle.rules.specs.declared.Planned.{Planned}
 use Rattle.planner.proofs.Numbers.{pieces-of-numbers}
 use Rattle.planner.proofs.Promised.{accepted-table-obeys}
 use Rattle.walker.proofs.Accepted.{walked-finish-by-release-plus-period-plus-frame, walked-finish-by-release-plus-period}
-
-length-numbers : (ps : List Piece) → length (numbersOf ps) ≡ 4 * length ps
-length-numbers [] = refl
-length-numbers (p ∷ ps) = omega (arith, length-numbers ps)
+use Rattle.rules.proofs.Numbers.{length-numbers}
 
 -- what stands at the front of the lent table after an accepted answer
 abbrev pub planned-part : Planned → List ℕ → List ℕ

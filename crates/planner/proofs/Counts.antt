@@ -16,9 +16,9 @@ use Rattle.rules.specs.Sum.{sumTo, positive}
 use Rattle.rules.specs.Piece.{Piece}
 use Rattle.rules.specs.Layout.{Walk, stretch}
 use Rattle.rules.specs.Table.{insertAll, piecesOn, coreTo, coresTo}
-use Rattle.sums.proofs.Sum.{sum-cong, sum-const, sum-swap, sum-mono, positive-le, positive-of}
+use Rattle.sums.proofs.Sum.{sum-cong, sum-const, sum-swap, sum-mono, positive-le, positive-of, sum-at-most-one}
 use Rattle.planner.specs.Certificate.{Peeled}
-use Rattle.planner.proofs.Forest.{edges, sparse, sum-at-most-one}
+use Rattle.planner.proofs.Forest.{edges, sparse}
 use Rattle.planner.proofs.Reaching.{zero-of}
 use Rattle.planner.proofs.PieceLists.{total-insert-all, total-length}
 use Rattle.planner.proofs.Parts.{cut-fits, cut-crosses, pieces-none, pieces-some}

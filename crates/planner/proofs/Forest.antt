@@ -12,7 +12,7 @@ use lib.Dec.{ltb}
 use Rattle.rules.specs.Sum.{sumTo, positive}
 use Rattle.rules.specs.Loops.{Cycle, LoopFree}
 use Rattle.rules.specs.Extra.{coresOf, extra}
-use Rattle.sums.proofs.Sum.{sum-cong, sum-le, sum-zero, sum-add, sum-const, sum-swap, sum-lt, positive-le, positive-of}
+use Rattle.sums.proofs.Sum.{sum-cong, sum-le, sum-zero, sum-add, sum-const, sum-swap, sum-lt, positive-le, positive-of, sum-at-most-one}
 use Rattle.planner.specs.Certificate.{Peeled}
 
 -- where a function is least
@@ -93,22 +93,6 @@ module _ (n m : ℕ) (x : ℕ → ℕ → ℕ) (p : Peeled n m x) (c : Cycle n m
 -- "the graph .. has no cycle": of a cycle, the vertex that is taken away first would have two later neighbours
 pub peeled-has-no-loop : {n m : ℕ} {x : ℕ → ℕ → ℕ} → Peeled n m x → LoopFree n m x
 peeled-has-no-loop {n} {m} {x} p c = no-cycle n m x p c
-
--- terms at most v, of which at most one is above 0
-pub sum-at-most-one : (n v : ℕ) (f : ℕ → ℕ) → ((i : ℕ) → i < n → f i ≤ v) → ((i k : ℕ) → i < n → k < n → 0 < f i → 0 < f k → i ≡ k) → sumTo n f ≤ v
-unfolding sumTo
-sum-at-most-one zero v f h one = omega arith
-sum-at-most-one (suc n) v f h one =
-    elim (decLt 0 (f n)) [
-      | yes s ↦ omega (arith, sum-zero n {f = f} (λ i l. others i l s), h n (omega arith))
-      | no s ↦ omega (arith, sum-at-most-one n v f (λ i l. h i (omega arith)) (λ i k a b u w. one i k (omega arith) (omega arith) u w))
-    ]
-  where
-    others : (i : ℕ) → i < n → 0 < f n → f i ≡ 0
-    others i l s = elim (decLt 0 (f i)) [ yes u ↦ absurd (lower i n l (one i n (omega arith) (omega arith) u s)) | no z ↦ omega arith ]
-      where
-        lower : (i n : ℕ) → i < n → i ≡ n → ⊥
-        lower i n l e = omega arith
 
 -- where a function is greatest
 pub greatest-value : (n : ℕ) (f : ℕ → ℕ) → (v : ℕ) × ((i : ℕ) → i < n → f i ≤ v) × (0 < v → (a : ℕ) × (a < n) × (f a ≡ v))

@@ -12,9 +12,12 @@ use Rattle.rules.specs.Piece.{Piece, numbersOf}
 use Rattle.rules.specs.Moves.{insert}
 use Rattle.rules.specs.Table.{cut, insertAll}
 use Rattle.planner.specs.Pieces.{Placed, gap, Inserts}
-use Rattle.planner.proofs.PieceLists.{insert-later, insert-here, total-length, total-insert}
-use Rattle.planner.proofs.Numbers.{length-numbers, numbers-append}
+use Rattle.planner.proofs.PieceLists.{total-length, total-insert}
+use Rattle.sums.proofs.Inserted.{insert-later, insert-here}
+use Rattle.planner.proofs.Numbers.{numbers-append}
+use Rattle.rules.proofs.Numbers.{length-numbers}
 use Rattle.planner.proofs.Parts.{cut-fits, cut-crosses}
+use Rattle.sums.proofs.Inserted.{length-insert}
 
 -- the list with a piece put in at the place r
 abbrev placedIn : List ℕ → ℕ → ℕ → Piece → List ℕ
@@ -137,9 +140,6 @@ room-one F core task s len count n h r = omega (arith, ap length (cut-fits F cor
 
 pub room-two : (F core task s len count n : ℕ) → F < s + len → 4 * (count + length (cut F core task s len)) ≤ n → 4 * (count + 1) + 4 ≤ n
 room-two F core task s len count n h r = omega (arith, ap length (cut-crosses F core task s len h))
-
-pub length-insert : (p : Piece) (l : List Piece) → length (insert p l) ≡ suc (length l)
-length-insert p l = total-length (insert p l) ∙ total-insert (λ p. 1) p l ∙ omega (arith, total-length l)
 
 pub inserts-then : (from count : ℕ) (p q : Piece) (l t u : List ℕ) → Inserts from count (p ∷ []) l t → Inserts from (count + 1) (q ∷ []) t u → Inserts from count (p ∷ q ∷ []) l u
 unfolding insertAll

@@ -15,7 +15,7 @@ use Rattle.rules.specs.Layout.{Walk, begun, meetOne, meet, visitMark, visit, wa
 use Rattle.sums.proofs.Sum.{put-same, put-other, sum-le, sum-zero, sum-put, sum-tight, sum-const}
 use Rattle.planner.specs.Certificate.{Peeled}
 use Rattle.planner.proofs.Forest.{left-pos, right-pos}
-use Rattle.planner.proofs.Lowest.{lowest-hit, lowest-none}
+use Rattle.sums.proofs.Lowest.{lowest-hit, lowest-none}
 use Rattle.planner.proofs.Reaching.{same-refl, zero-of, meet-none, meet-old, meet-fresh}
 use Rattle.planner.proofs.Growing.{Laid, Kept, kept-trans, Growing, newTasks, newCores, laid-kept, after-visited, after-kept, after-met-more, after-met-here, after-growing}
 

@@ -1,6 +1,5 @@
 pub mod Forest
 pub mod Reaching
-pub mod Lowest
 pub mod Growing
 pub mod LaidOut
 pub mod Ahead

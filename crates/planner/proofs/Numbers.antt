@@ -7,10 +7,7 @@ use native.Mathlib.Nat.{mul-div-cancel-left, mul-mod-right}
 use native.Mathlib.Omega.{arith}
 use lib.ListN.{length}
 use Rattle.rules.specs.Piece.{Piece, pieceAt, firstPieces, piecesOf, numbersOf}
-
-pub length-numbers : (ps : List Piece) → length (numbersOf ps) ≡ 4 * length ps
-length-numbers [] = refl
-length-numbers (p ∷ ps) = omega (arith, length-numbers ps)
+use Rattle.rules.proofs.Numbers.{length-numbers}
 
 pub numbers-append : (a b : List Piece) → numbersOf (a ++ b) ≡ numbersOf a ++ numbersOf b
 numbers-append [] b = refl

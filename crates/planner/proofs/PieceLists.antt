@@ -12,6 +12,7 @@ use Rattle.rules.specs.Piece.{Piece}
 use Rattle.rules.specs.Moves.{insert}
 use Rattle.rules.specs.Table.{insertAll}
 use Rattle.rules.specs.FrameTable.{every, everyTwo}
+use Rattle.sums.proofs.Inserted.{insert-later, insert-here}
 
 -- each piece has the property
 abbrev pub Every : (Piece → Type 0) → List Piece → Type 0
@@ -22,14 +23,6 @@ Every P (a ∷ l) = P a × Every P l
 abbrev pub Pairs : (Piece → Piece → Type 0) → List Piece → Type 0
 Pairs R [] = Unit {0}
 Pairs R (a ∷ l) = Every (R a) l × Pairs R l
-
-pub insert-later : (p q : Piece) (l : List Piece) → q .start ≤ p .start → insert p (q ∷ l) ≡ q ∷ insert p l
-unfolding insert
-insert-later p q l h = rw (le-leb (q .start) (p .start) h, insert)
-
-pub insert-here : (p q : Piece) (l : List Piece) → p .start < q .start → insert p (q ∷ l) ≡ p ∷ q ∷ l
-unfolding insert
-insert-here p q l h = rw (lt-leb (q .start) (p .start) h, insert)
 
 module _ (P : Piece → Type 0) where
   pub every-append : (a b : List Piece) → Every P a → Every P b → Every P (a ++ b)

@@ -8,20 +8,20 @@ use native.Mathlib.Omega.{arith}
 use borrow.Author.Tests.{eq-eqb, ne-eqb}
 use lib.Dec.{eqb}
 use Rattle.rules.specs.Sum.{sumTo, put}
-use Rattle.sums.proofs.Sum.{sum-cong, sum-le, sum-zero, sum-const, sum-swap, sum-put, put-same, put-other}
+use Rattle.sums.proofs.Sum.{sum-cong, sum-le, sum-zero, sum-const, sum-swap, sum-put, put-same, put-other, sum-at-most-one}
 
 -- at most one place that is not 0, and that at most 1
 pub sum-one : (k : ℕ) (g : ℕ → ℕ) → ((i : ℕ) → i < k → g i ≤ 1) → ((i l : ℕ) → i < l → l < k → 0 < g i → 0 < g l → ⊥) → sumTo k g ≤ 1
-unfolding sumTo
-sum-one zero g small alone = omega arith
-sum-one (suc k) g small alone =
-    elim (decLt 0 (g k)) [
-      | yes p ↦ omega (arith, sum-zero k {f = g} (λ i l. none (λ q. alone i k l (omega arith) q p)), small k (omega arith))
-      | no z ↦ omega (arith, sum-one k g (λ i l. small i (omega arith)) (λ i l a b. alone i l a (omega arith)))
-    ]
+sum-one k g small alone =
+    sum-at-most-one k 1 g small
+    (λ i l a b p q.
+    elim (ℕ-discrete i l) [
+      | yes e ↦ e
+      | no ne ↦ elim (decLt i l) [ yes s ↦ absurd (alone i l s b p q) | no s ↦ absurd (alone l i (other ne s) a q p) ]
+    ])
   where
-    none : {u : ℕ} → (0 < u → ⊥) → u ≡ 0
-    none z = omega arith
+    other : {i l : ℕ} → (i ≡ l → ⊥) → (i < l → ⊥) → l < i
+    other ne s = omega arith
 
 -- 1 at c, 0 elsewhere
 abbrev mark : ℕ → ℕ → ℕ

@@ -10,7 +10,7 @@ use native.Mathlib.Omega.{arith}
 use borrow.Author.Tests.{eq-eqb, ne-eqb}
 use lib.ListN.{length}
 use Rattle.rules.specs.Sum.{sumTo, put}
-use Rattle.sums.proofs.Sum.{sum-put, sum-term, put-other}
+use Rattle.sums.proofs.Sum.{sum-two}
 use Rattle.planner.specs.Certificate.{cell}
 use Rattle.planner.specs.Ring.{Moved, prior, Ring, Named, Least, ShiftReady, Shifted, Kept, edges}
 use Rattle.planner.proofs.Shifting.{shifted-none, shifted-more, shifted-kept, shifted-edges}
@@ -56,10 +56,6 @@ module _ (x : ℕ → ℕ → ℕ) (task core : ℕ → ℕ) (lo : ℕ) where
     where
       same : {a b : ℕ} → a ≤ b → b ≤ a → a ≡ b
       same p q = omega arith
-
--- two different terms of a sum
-pub sum-two : (n j k : ℕ) (f : ℕ → ℕ) → j < n → k < n → (j ≡ k → ⊥) → f j + f k ≤ sumTo n f
-sum-two n j k f a b ne = omega (arith, sum-put n j 0 f a, sum-term n k (put j 0 f) b, put-other j 0 f k (λ e. ne (sym e)))
 
 module _ (n m : ℕ) (x : ℕ → ℕ → ℕ) (task core : ℕ → ℕ) (lo hi d : ℕ) (r : ShiftReady n m x task core lo hi d) where
   pub shift-begins : Shifted n m x x task core lo hi d lo

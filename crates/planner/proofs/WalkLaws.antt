@@ -25,7 +25,7 @@ use Rattle.planner.specs.Small.{Small}
 use Rattle.planner.specs.Walking.{walkOf, Kept, Reaching, Meeting}
 use Rattle.planner.specs.declared.walking.Marks.{Marks}
 use Rattle.planner.proofs.LaidOut.{next-core, visits-state}
-use Rattle.planner.proofs.Lowest.{lowest-none, lowest-more, lowest-found, lowest-same}
+use Rattle.sums.proofs.Lowest.{lowest-none, lowest-more, lowest-found, lowest-same}
 use Rattle.planner.proofs.Bounds.{bounded-more, bounded-meet, bounded-visits}
 use Rattle.planner.proofs.Reaching.{one-none, one-here, one-moved, meet-none, meet-old, meet-fresh}
 

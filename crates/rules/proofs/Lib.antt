@@ -1,6 +1,7 @@
 pub mod Below
 pub mod OneTask
 pub mod Computed
+pub mod Numbers
 pub mod Settled
 pub mod Values
 pub mod Unique

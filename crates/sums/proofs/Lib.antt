@@ -1,2 +1,4 @@
 pub mod Sum
 pub mod Sets
+pub mod Lowest
+pub mod Inserted

@@ -161,3 +161,23 @@ sum-but-one n t f g l h = ap (λ (s : ℕ). s + g t) (sum-cong n same) ∙ sum-p
           | yes e ↦ ap f e ∙ sym (put-same t (f t) g) ∙ ap (put t (f t) g) (sym e)
           | no ne ↦ h i k ne ∙ sym (put-other t (f t) g i ne)
         ]
+
+-- terms at most v, of which at most one is above 0
+pub sum-at-most-one : (n v : ℕ) (f : ℕ → ℕ) → ((i : ℕ) → i < n → f i ≤ v) → ((i k : ℕ) → i < n → k < n → 0 < f i → 0 < f k → i ≡ k) → sumTo n f ≤ v
+unfolding sumTo
+sum-at-most-one zero v f h one = omega arith
+sum-at-most-one (suc n) v f h one =
+    elim (decLt 0 (f n)) [
+      | yes s ↦ omega (arith, sum-zero n {f = f} (λ i l. others i l s), h n (omega arith))
+      | no s ↦ omega (arith, sum-at-most-one n v f (λ i l. h i (omega arith)) (λ i k a b u w. one i k (omega arith) (omega arith) u w))
+    ]
+  where
+    others : (i : ℕ) → i < n → 0 < f n → f i ≡ 0
+    others i l s = elim (decLt 0 (f i)) [ yes u ↦ absurd (lower i n l (one i n (omega arith) (omega arith) u s)) | no z ↦ omega arith ]
+      where
+        lower : (i n : ℕ) → i < n → i ≡ n → ⊥
+        lower i n l e = omega arith
+
+-- two different terms of a sum
+pub sum-two : (n j k : ℕ) (f : ℕ → ℕ) → j < n → k < n → (j ≡ k → ⊥) → f j + f k ≤ sumTo n f
+sum-two n j k f a b ne = omega (arith, sum-put n j 0 f a, sum-term n k (put j 0 f) b, put-other j 0 f k (λ e. ne (sym e)))

@@ -13,22 +13,14 @@ use lib.ListN.{length}
 use borrow.Author.Tests.{le-leb, lt-leb, eq-eqb, ne-eqb}
 use Rattle.rules.specs.Piece.{Piece, pieceAt, firstPieces}
 use Rattle.rules.specs.Moves.{insert, byStart}
+use Rattle.sums.proofs.Inserted.{insert-later, insert-here}
 
 -- p stands in the list
 abbrev pub In : Piece → List Piece → Type 0
 In p [] = ⊥
 In p (q ∷ l) = (p ≡ q) ⊎ In p l
 
--- insert and byStart, as equations
-module _ (p q : Piece) (l : List Piece) where
-  pub insert-after : q .start ≤ p .start → insert p (q ∷ l) ≡ q ∷ insert p l
-  unfolding insert
-  insert-after h = rw (insert, le-leb _ _ h)
-
-  pub insert-before : p .start < q .start → insert p (q ∷ l) ≡ p ∷ q ∷ l
-  unfolding insert
-  insert-before h = rw (insert, lt-leb _ _ h)
-
+-- byStart, as equations
 module _ (t : ℕ) (p : Piece) (l : List Piece) where
   pub by-start-own : p .task ≡ t → byStart t (p ∷ l) ≡ insert p (byStart t l)
   unfolding byStart
@@ -43,8 +35,8 @@ unfolding insert
 in-insert p r [] h = h
 in-insert p r (q ∷ l) h =
     elim (decLe (q .start) (p .start)) [
-      | yes a ↦ later (in-insert p r l) (rw (insert-after p q l a) at h)
-      | no a ↦ rw (insert-before p q l (omega arith)) at h
+      | yes a ↦ later (in-insert p r l) (rw (insert-later p q l a) at h)
+      | no a ↦ rw (insert-here p q l (omega arith)) at h
     ]
   where
     later : (In r (insert p l) → (r ≡ p) ⊎ In r l) → In r (q ∷ insert p l) → (r ≡ p) ⊎ In r (q ∷ l)
@@ -56,15 +48,15 @@ unfolding insert
 insert-new p [] = inl refl
 insert-new p (q ∷ l) =
     elim (decLe (q .start) (p .start)) [
-      | yes a ↦ rw (insert-after p q l a) (inr (insert-new p l))
-      | no a ↦ rw (insert-before p q l (omega arith)) (inl refl)
+      | yes a ↦ rw (insert-later p q l a) (inr (insert-new p l))
+      | no a ↦ rw (insert-here p q l (omega arith)) (inl refl)
     ]
 
 pub insert-old : (p r : Piece) (l : List Piece) → In r l → In r (insert p l)
 insert-old p r (q ∷ l) i =
     elim (decLe (q .start) (p .start)) [
-      | yes a ↦ rw (insert-after p q l a) (⊎-elim (λ e. inl e) (λ j. inr (insert-old p r l j)) i)
-      | no a ↦ rw (insert-before p q l (omega arith)) (inr i)
+      | yes a ↦ rw (insert-later p q l a) (⊎-elim (λ e. inl e) (λ j. inr (insert-old p r l j)) i)
+      | no a ↦ rw (insert-here p q l (omega arith)) (inr i)
     ]
 
 -- "list its pieces by start": the task's pieces, and no others

@@ -24,18 +24,10 @@ use Rattle.table.specs.Next.{nextPiece}
 use Rattle.table.specs.Framed.{Framed}
 use Rattle.table.specs.Sizes.{sizesPass}
 use Rattle.table.proofs.All.{length-first}
-use Rattle.table.proofs.Member.{insert-after, insert-before, by-start-own, by-start-other}
+use Rattle.table.proofs.Member.{by-start-own, by-start-other}
 use Rattle.table.proofs.Reading.{table-reads}
 use Rattle.table.proofs.Rest.{rest, next-rest, next-last, rest-whole, next-from}
-
-length-insert : (p : Piece) (l : List Piece) → length (insert p l) ≡ suc (length l)
-unfolding insert
-length-insert p [] = refl
-length-insert p (q ∷ l) =
-    elim (decLe (q .start) (p .start)) [
-      | yes a ↦ ap length (insert-after p q l a) ∙ ap suc (length-insert p l)
-      | no a ↦ ap length (insert-before p q l (omega arith))
-    ]
+use Rattle.sums.proofs.Inserted.{length-insert}
 
 -- a task has no more pieces than the table
 pub length-by-start : (t : ℕ) (ps : List Piece) → length (byStart t ps) ≤ length ps

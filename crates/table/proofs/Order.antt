@@ -15,8 +15,9 @@ use Rattle.rules.specs.Piece.{Piece, pieceAt, piecesOf, wholePieces}
 use Rattle.rules.specs.FrameTable.{every, everyTwo, sound, ordered, coreApart, taskApart, framePieces, frameTable}
 use Rattle.rules.specs.Moves.{insert, byStart}
 use Rattle.table.proofs.All.{and-left, and-right}
-use Rattle.table.proofs.Member.{In, insert-after, insert-before, by-start-own, by-start-other, in-by-start}
+use Rattle.table.proofs.Member.{In, by-start-own, by-start-other, in-by-start}
 use Rattle.table.proofs.Reading.{Disjoint, task-apart-reads, sound-reads, every-in}
+use Rattle.sums.proofs.Inserted.{insert-later, insert-here}
 
 -- no piece before b; each has a length, and starts at the end of the one before it or later
 abbrev pub Chain : ℕ → List Piece → Type 0
@@ -37,9 +38,9 @@ chain-insert b p [] c h n d = (h, n, tt)
 chain-insert b p (q ∷ l) c h n d =
     elim (decLe (q .start) (p .start)) [
       | yes a ↦
-          rw (insert-after p q l a)
+          rw (insert-later p q l a)
           (c .0, c .1, chain-insert (q .start + q .len) p l (c .2) (after a (d q (inl refl))) n (λ r i. d r (inr i)))
-      | no a ↦ rw (insert-before p q l (omega arith)) (h, n, (before (omega arith) (d q (inl refl)), c .1, c .2))
+      | no a ↦ rw (insert-here p q l (omega arith)) (h, n, (before (omega arith) (d q (inl refl)), c .1, c .2))
     ]
   where
     after : q .start ≤ p .start → Disjoint p q → q .start + q .len ≤ p .start

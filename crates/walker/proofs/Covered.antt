@@ -15,7 +15,8 @@ use Rattle.rules.specs.FrameTable.{every, everyTwo, sound, ordered, coreApart, 
 use Rattle.rules.specs.Moves.{insert, byStart}
 use Rattle.rules.specs.Service.{covers, covered}
 use Rattle.table.proofs.All.{and-left, and-right}
-use Rattle.table.proofs.Member.{In, insert-after, insert-before, by-start-own, by-start-other, in-by-start}
+use Rattle.table.proofs.Member.{In, by-start-own, by-start-other, in-by-start}
+use Rattle.sums.proofs.Inserted.{insert-later, insert-here}
 use Rattle.table.proofs.Reading.{Disjoint, task-apart-reads, every-in}
 use Rattle.walker.specs.Served.{inside}
 use Rattle.walker.proofs.Units.{inside-in, inside-before, inside-after}
@@ -30,8 +31,8 @@ unfolding insides insert
 insides-insert p [] t = refl
 insides-insert p (q ∷ l) t =
     elim (decLe (q .start) (p .start)) [
-      | yes a ↦ ap (λ (s : List Piece). insides s t) (insert-after p q l a) ∙ omega (arith, insides-insert p l t)
-      | no a ↦ ap (λ (s : List Piece). insides s t) (insert-before p q l (omega arith))
+      | yes a ↦ ap (λ (s : List Piece). insides s t) (insert-later p q l a) ∙ omega (arith, insides-insert p l t)
+      | no a ↦ ap (λ (s : List Piece). insides s t) (insert-here p q l (omega arith))
     ]
 
 insides-none : (l : List Piece) (t : ℕ) → ((q : Piece) → In q l → inside (q .start) (q .len) t ≡ 0) → insides l t ≡ 0

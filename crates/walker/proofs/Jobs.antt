@@ -16,66 +16,7 @@ use Rattle.rules.specs.Jobs.{badJobCount, early, badJob, firstBadJob, firstAski
 use Rattle.rules.specs.declared.Answer.{Answer}
 use Rattle.rules.specs.declared.Answer.the-variants.{Accepted, JobList}
 use Rattle.walker.specs.Jobs.{accepts, jobsAnswer, JobsGood}
-
--- the lowest place, as a loop finds it
-module _ (f : ℕ → ℕ) where
-  pub lowest-none : lowest 0 f ≡ 0
-  unfolding lowest
-  lowest-none = refl
-
-  pub lowest-more : (i : ℕ) → lowest i f ≡ i → f i ≡ 0 → lowest (i + 1) f ≡ i + 1
-  unfolding lowest
-  lowest-more i e z = rw (add-one i, lowest, e, le-ltb i i (le-refl _), z)
-
-  lowest-keep : (n : ℕ) → lowest n f < n → lowest (suc n) f ≡ lowest n f
-  unfolding lowest
-  lowest-keep n h = rw (lowest, lt-ltb (lowest n f) n h)
-
-  lowest-at : (n : ℕ) → n ≤ lowest n f → 0 < f n → lowest (suc n) f ≡ n
-  unfolding lowest
-  lowest-at n e h = rw (lowest, le-ltb (lowest n f) n e) (at (f n) h)
-    where
-      at : (v : ℕ) → 0 < v → elim v as (λ (x : ℕ). ℕ) [ zero ↦ suc n | suc w ↦ n ] ≡ n
-      at zero h = absurd (not-suc-le-zero h)
-      at (suc w) h = refl
-
-  pub lowest-first : (n i : ℕ) → lowest i f ≡ i → 0 < f i → i < n → lowest n f ≡ i
-  lowest-first zero i e p h = absurd (not-suc-le-zero h)
-  lowest-first (suc n) i e p h =
-      elim (ℕ-discrete i n) [
-        | yes d ↦ rw (← d) (lowest-at i (omega arith) p)
-        | no d ↦ kept (lowest-first n i e p (omega arith)) (omega arith)
-      ]
-    where
-      kept : lowest n f ≡ i → i < n → lowest (suc n) f ≡ i
-      kept r l = lowest-keep n (omega arith) ∙ r
-
-  lowest-le : (n k : ℕ) → 0 < f k → k < n → lowest n f ≤ k
-  lowest-le zero k p h = absurd (not-suc-le-zero h)
-  lowest-le (suc n) k p h =
-      elim (decLt (lowest n f) n) [
-        | yes l ↦
-            elim (ℕ-discrete k n) [
-              | yes d ↦ omega (arith, lowest-keep n l)
-              | no d ↦ omega (arith, lowest-keep n l, lowest-le n k p (omega arith))
-            ]
-        | no l ↦
-            elim (ℕ-discrete k n) [
-              | yes d ↦ omega (arith, lowest-at n (omega arith) (rw d at p))
-              | no d ↦ absurd (past l (lowest-le n k p (omega arith)) (omega arith))
-            ]
-      ]
-    where
-      past : (lowest n f < n → ⊥) → lowest n f ≤ k → k < n → ⊥
-      past a b c = omega arith
-
-  -- nothing below the lowest
-  pub lowest-zero : (n : ℕ) → n ≤ lowest n f → (k : ℕ) → k < n → f k ≡ 0
-  lowest-zero n h k l =
-      elim (ℕ-discrete (f k) 0) [ yes e ↦ e | no e ↦ absurd (past (lowest-le n k (omega arith) l)) ]
-    where
-      past : lowest n f ≤ k → ⊥
-      past a = omega arith
+use Rattle.sums.proofs.Lowest.{lowest-begin, lowest-more, lowest-found, lowest-none}
 
 early-before : (releases : List ℕ) (k : ℕ) → (k ≡ 0 → ⊥) → ltb (getD releases k 0) (getD releases (k - 1) 0) ≡ early releases k
 unfolding early
@@ -120,14 +61,14 @@ module _ (releases jobs : List ℕ) where
   Passed k = lowest k (badJob releases jobs) ≡ k
 
   pub passed-none : Passed 0
-  passed-none = lowest-none (badJob releases jobs)
+  passed-none = lowest-begin (badJob releases jobs)
 
   pub passed-more : (k : ℕ) (t : Bool) → Passed k → cond t 1 0 ≡ badJob releases jobs k → t ≡ false → Passed (k + 1)
   passed-more k t p e y = lowest-more (badJob releases jobs) k p (sym e ∙ ap (λ (b : Bool). cond b 1 0) y)
 
   pub passed-fault : (k : ℕ) (t : Bool) → Passed k → cond t 1 0 ≡ badJob releases jobs k → t ≡ true → k < length releases → k ≡ firstBadJob releases jobs
   unfolding firstBadJob
-  passed-fault k t p e y h = sym (lowest-first (badJob releases jobs) (length releases) k p (one (sym e ∙ ap (λ (b : Bool). cond b 1 0) y)) h)
+  passed-fault k t p e y h = lowest-found (badJob releases jobs) (length releases) k h p (one (sym e ∙ ap (λ (b : Bool). cond b 1 0) y))
     where
       one : {n : ℕ} → n ≡ 1 → 0 < n
       one e = omega arith
@@ -145,14 +86,14 @@ module _ (jobs : List ℕ) where
   Idle k = lowest k (λ i. getD jobs i 0) ≡ k
 
   pub idle-none : Idle 0
-  idle-none = lowest-none (λ i. getD jobs i 0)
+  idle-none = lowest-begin (λ i. getD jobs i 0)
 
   pub idle-more : (k : ℕ) → Idle k → getD jobs k 0 ≡ 0 → Idle (k + 1)
   idle-more k p e = lowest-more (λ i. getD jobs i 0) k p e
 
   pub idle-asks : (k : ℕ) → Idle k → (getD jobs k 0 ≡ 0 → ⊥) → k < length jobs → k ≡ firstAsking jobs
   unfolding firstAsking
-  idle-asks k p e h = sym (lowest-first (λ i. getD jobs i 0) (length jobs) k p (omega arith) h)
+  idle-asks k p e h = lowest-found (λ i. getD jobs i 0) (length jobs) k h p (omega arith)
 
   pub idle-all : (k : ℕ) → Idle k → k ≤ length jobs → length jobs ≤ k → k ≡ firstAsking jobs
   unfolding firstAsking
@@ -163,7 +104,7 @@ module _ (jobs : List ℕ) where
 
   pub nothing-asked : length jobs ≤ firstAsking jobs → (k : ℕ) → k < length jobs → getD jobs k 0 ≡ 0
   unfolding firstAsking
-  nothing-asked h k l = lowest-zero (λ i. getD jobs i 0) (length jobs) h k l
+  nothing-asked h k l = lowest-none (length jobs) (λ i. getD jobs i 0) h k l
 
 module _ (releases jobs : List ℕ) where
   pub jobs-differ : (length releases ≡ length jobs → ⊥) → JobList 0 ≡ jobsAnswer releases jobs
@@ -201,8 +142,8 @@ module _ (releases jobs : List ℕ) where
       record {
         same = sym (eqb-true _ _ (count .0));
         few = ltb-false _ _ (count .1);
-        release = λ k h. good-job releases jobs k (lowest-zero (badJob releases jobs) (length releases) none k h) .0;
-        job = λ k h. good-job releases jobs k (lowest-zero (badJob releases jobs) (length releases) none k h) .1;
+        release = λ k h. good-job releases jobs k (lowest-none (length releases) (badJob releases jobs) none k h) .0;
+        job = λ k h. good-job releases jobs k (lowest-none (length releases) (badJob releases jobs) none k h) .1;
       }
     where
       either : (a b : Bool) → (not a || b) ≡ false → (a ≡ true) × (b ≡ false)

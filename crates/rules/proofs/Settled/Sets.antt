@@ -17,10 +17,7 @@ use Rattle.rules.specs.Settled.{Roomy, Only}
 use Rattle.rules.specs.declared.Answer.{Answer}
 use Rattle.rules.specs.declared.Answer.the-variants.{Accepted, Overloaded}
 use Rattle.rules.specs.declared.Planned.{Planned}
-
-pub length-numbers : (ps : List Piece) → length (numbersOf ps) ≡ 4 * length ps
-length-numbers [] = refl
-length-numbers (p ∷ ps) = omega (arith, length-numbers ps)
+use Rattle.rules.proofs.Numbers.{length-numbers}
 
 module _ (F m : ℕ) (budgets masks : List ℕ) where
   Fit : ℕ → Type 0

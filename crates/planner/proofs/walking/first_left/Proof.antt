@@ -6,7 +6,7 @@ use mathlib.Core.Path.{_≡_}
 use Prim.Native.Nat.{_≤_, _-_}
 use Rattle.rules.specs.Sum.{lowest}
 use Rattle.planner.proofs.WalkLaws.{leftOf, left-hit, left-more}
-use Rattle.planner.proofs.Lowest.{lowest-begin, lowest-ended}
+use Rattle.sums.proofs.Lowest.{lowest-begin, lowest-ended}
 use Rattle.planner.proofs.walking.first_left.Statement.{statement}
 use Rattle.planner.proofs.walking.first_left.Tie as tie
 

@@ -8,7 +8,13 @@ use native.Mathlib.Decide.{ℕ-discrete, decLt}
 use native.Mathlib.Omega.{arith}
 use borrow.Author.Tests.{lt-ltb, le-ltb}
 use Rattle.rules.specs.Sum.{lowest}
-use Rattle.planner.proofs.Reaching.{pred-of, zero-of}
+
+pred-of : (a : ℕ) → 0 < a → (b : ℕ) × (a ≡ suc b)
+pred-of zero h = absurd (not-suc-le-zero h)
+pred-of (suc b) h = (b, refl)
+
+zero-of : {a : ℕ} → (0 < a → ⊥) → a ≡ 0
+zero-of s = omega arith
 
 -- one number more: found before, found here, not found
 keep-low : (n : ℕ) (f : ℕ → ℕ) → lowest n f < n → lowest (suc n) f ≡ lowest n f

@@ -17,6 +17,7 @@ use Rattle.rules.specs.FrameTable.{every, everyTwo, sound, ordered, over
 use Rattle.rules.specs.Moves.{insert, byStart, changesAfter, changes, moves}
 use Rattle.rules.specs.Service.{covers, covered, unit, units}
 use Rattle.rules.specs.Finish.{beginOf}
+use Rattle.rules.specs.Obeys.{allowed}
 use Rattle.rules.specs.Layout.{ahead, begun, stretch, reachOne, reach, meetMark, meetOne, meet, visitMark, visit, waiting, unvisited, nextCore, visits, layout}
 use Rattle.rules.specs.Table.{row, cells, cellAt, cut, insertAll, piecesOn, coreTo, coresTo, tableOfCells, tableOf}
 use Rattle.rules.specs.Tests.{badFrame, badCores, badTasks, badMask, badBudget, shortTable, Tested, refused, passed, tested}
@@ -126,6 +127,19 @@ moves-value = refl
 service-value : units 10 (piecesOf frame-table) 2 12 ≡ 11
 unfolding frame-table firstPieces covers covered sumTo
 service-value = refl
+
+-- a piece on a core of its task's mask, one outside it, and one of a task that the set does not have
+allowed-value : allowed 3 (at (0b01 ∷ 0b01 ∷ 0b10 ∷ [])) (record { core = 1; task = 2; start = 0; len = 1 }) ≡ true
+unfolding allowed has
+allowed-value = refl
+
+outside-value : allowed 3 (at (0b01 ∷ 0b01 ∷ 0b10 ∷ [])) (record { core = 0; task = 2; start = 0; len = 1 }) ≡ false
+unfolding allowed has
+outside-value = refl
+
+stranger-value : allowed 3 (at (0b01 ∷ 0b01 ∷ 0b10 ∷ [])) (record { core = 0; task = 3; start = 0; len = 1 }) ≡ false
+unfolding allowed has
+stranger-value = refl
 
 begin-value : beginOf (at (3 ∷ 5 ∷ [])) (at (9 ∷ [])) 1 ≡ 9
 unfolding beginOf

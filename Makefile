@@ -10,7 +10,7 @@ kit:
 	@found="$$(rt version)"; test "$$found" = "$(KIT)" || echo "note: this kit is '$$found'; the proofs were last seen with '$(KIT)'"
 
 plan: kit
-	@mkdir -p target && rt check plan >target/plan.log || { tail -n 20 target/plan.log; exit 1; }
+	@mkdir -p target && rt check plan >target/plan.log 2>&1 || { tail -n 20 target/plan.log; exit 1; }
 	@tail -n 1 target/plan.log
 
 # each set's line and the answer under it; examples/sets.txt says what each is
@@ -19,12 +19,12 @@ run: plan
 	@paste -d '\n' examples/sets.hex target/sets.out
 
 executive: kit
-	@mkdir -p target && rt staticlib aurhennig >target/staticlib.log || { tail -n 20 target/staticlib.log; exit 1; }
+	@mkdir -p target && rt staticlib aurhennig >target/staticlib.log 2>&1 || { tail -n 20 target/staticlib.log; exit 1; }
 	@$(CC) -O2 -Wall -Wextra -Iinclude -o target/executive examples/executive.c target/staticlib/libaurhennig.a
 	@target/executive
 
 bench: executive plan
-	@rt check calls >target/calls.log || { tail -n 20 target/calls.log; exit 1; }
+	@rt check calls >target/calls.log 2>&1 || { tail -n 20 target/calls.log; exit 1; }
 	@bench/run
 
 test: kit

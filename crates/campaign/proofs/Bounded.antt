@@ -16,7 +16,7 @@ use Rattle.rules.specs.Walked.{WalkAnswer}
 use Rattle.rules.specs.declared.Answer.{Answer}
 use Rattle.rules.specs.declared.Answer.the-variants.{Accepted}
 use Rattle.rules.specs.declared.Planned.{Planned}
-use Rattle.planner.proofs.Numbers.{pieces-of-numbers}
+use Rattle.stretches.proofs.Numbers.{pieces-of-numbers}
 use Rattle.planner.proofs.Promised.{accepted-table-obeys}
 use Rattle.walker.proofs.Accepted.{walked-finish-by-release-plus-period-plus-frame, walked-finish-by-release-plus-period}
 use Rattle.rules.proofs.Numbers.{length-numbers}

@@ -9,7 +9,7 @@ use mir.Syntax.{w32}
 use Rattle.rules.specs.Sum.{sumTo, put}
 use Rattle.rules.specs.Layout.{ahead}
 use Rattle.sums.proofs.Sum.{sum-mono, sum-put-past}
-use Rattle.planner.proofs.Ahead.{ahead-first, ahead-rest, ahead-ends}
+use Rattle.stretches.proofs.Ahead.{ahead-first, ahead-rest, ahead-ends}
 
 module _ (f : ℕ → ℕ) where
   pub sum-part : (t n : ℕ) → t < n → sumTo n f ≤ 1000000 → sumTo t f ≤ 1000000

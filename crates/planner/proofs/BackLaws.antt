@@ -11,13 +11,14 @@ use lib.ListN.{length}
 use Rattle.rules.specs.Sum.{sumTo}
 use Rattle.rules.specs.Sets.{has}
 use Rattle.rules.specs.Plan.{at}
+use Rattle.sums.proofs.Sum.{sum-but-one}
 use Rattle.sums.proofs.Sets.{has-one}
-use Rattle.planner.specs.Certificate.{cell}
+use Rattle.stretches.specs.Cell.{cell}
 use Rattle.planner.specs.Fill.{Filling, raise, lower}
 use Rattle.planner.specs.Search.{Way}
 use Rattle.planner.specs.Back.{ShiftFits, Shifted, PlaceFits, Placed, Reads, backward, lacking}
 use Rattle.planner.specs.Filled.{MoreBy}
-use Rattle.planner.proofs.StepLaws.{sum-change, raise-same, raise-other, lower-same, lower-other, raise-lower, taken, placed, place-fits, take-fits}
+use Rattle.planner.proofs.StepLaws.{raise-same, raise-other, lower-same, lower-other, raise-lower, taken, placed, place-fits, take-fits}
 
 module _ {F m : ℕ} {budgets masks units left room queue via from : List ℕ} (f : Filling F m budgets masks units left room) where
   module _ {p : ℕ} (w : Way (length budgets) m masks units left room queue via from p) where
@@ -43,7 +44,7 @@ module _ {F m : ℕ} {budgets masks units left room queue via from : List ℕ} (
           omega (
             arith,
             w .room-there,
-            sum-change (length budgets) (at via p) (at left) (at (lower left (at via p) d)) (w .task p (le-refl p)) (λ i l g. lower-other left (at via p) d i g),
+            sum-but-one (length budgets) (at via p) (at (lower left (at via p) d)) (at left) (w .task p (le-refl p)) (λ i l g. lower-other left (at via p) d i g),
             lower-same left (at via p) d (omega (arith, way-small, f .left-long)),
           )
 

@@ -8,10 +8,11 @@ use lib.ListN.{length, getD, set, length-set}
 use lib.Seq.{getD-set-same, getD-set-other}
 use Rattle.rules.specs.Sets.{has}
 use Rattle.rules.specs.Plan.{at}
-use Rattle.planner.specs.Stripping.{links, Fast}
-use Rattle.planner.specs.Ring.{Ring}
-use Rattle.planner.specs.Path.{Way, Other, Place, Came, SeekReady}
-use Rattle.planner.proofs.Ways.{way-begins, way-short, ring-by-core, ring-by-task, way-more}
+use Rattle.forest.specs.Stripping.{links, Fast}
+use Rattle.forest.specs.Ring.{Ring}
+use Rattle.forest.specs.Path.{Way, Other, Place}
+use Rattle.planner.specs.Seeking.{Came, SeekReady}
+use Rattle.forest.proofs.Ways.{way-begins, way-short, ring-by-core, ring-by-task, way-more}
 
 pub store-same : (l : List ℕ) (k v : ℕ) → length l ≡ 18 → k < 18 → at (set l k v) k ≡ v
 store-same l k v long small = getD-set-same l k v 0 (omega arith)

@@ -15,16 +15,18 @@ use Rattle.rules.specs.Plan.{at, Refusal, PlannedBy, OverloadedBy, Decided, pla
 use Rattle.rules.specs.declared.Answer.{Answer}
 use Rattle.rules.specs.declared.Answer.the-variants.{Accepted, Overloaded}
 use Rattle.rules.specs.declared.Planned.{Planned}
-use Rattle.planner.specs.Certificate.{cell, Peeled}
-use Rattle.planner.specs.Ring.{Kept}
-use Rattle.planner.specs.Ready.{Ready}
+use Rattle.stretches.specs.Cell.{cell}
+use Rattle.forest.specs.Peeled.{Peeled}
+use Rattle.forest.specs.Ring.{Kept}
+use Rattle.frames.specs.Ready.{Ready}
 use Rattle.planner.specs.Fill.{FillReady}
 use Rattle.planner.specs.Filled.{WholeBy, ShortBy}
-use Rattle.planner.specs.Plan.{DecideReady, Settled}
+use Rattle.tests.specs.Given.{DecideReady}
+use Rattle.planner.specs.Plan.{Settled}
 use Rattle.planner.proofs.FillLaws.{zeros}
-use Rattle.planner.proofs.Forest.{peeled-has-no-loop}
-use Rattle.planner.proofs.Unlooped.{kept-allocation}
-use Rattle.planner.proofs.PassedLaws.{passed-ready}
+use Rattle.forest.proofs.Forest.{peeled-has-no-loop}
+use Rattle.forest.proofs.Unlooped.{kept-allocation}
+use Rattle.tests.proofs.PassedLaws.{passed-ready}
 
 module _ (F m : ℕ) (budgets masks table : List ℕ) (d : DecideReady F m budgets masks table) where
   -- no units yet

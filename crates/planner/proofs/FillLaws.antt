@@ -12,7 +12,7 @@ use Rattle.rules.specs.Sets.{has}
 use Rattle.rules.specs.Plan.{at}
 use Rattle.sums.proofs.Sum.{sum-zero}
 use Rattle.sums.proofs.Sets.{has-zero}
-use Rattle.planner.specs.Certificate.{cell}
+use Rattle.stretches.specs.Cell.{cell}
 use Rattle.planner.specs.Fill.{Filling, FillReady, Copied, raise, lower}
 use Rattle.planner.specs.Back.{PlacedOn}
 use Rattle.planner.specs.Search.{Sized}

@@ -12,11 +12,11 @@ use Rattle.rules.specs.Piece.{Piece, numbersOf}
 use Rattle.rules.specs.Moves.{insert}
 use Rattle.rules.specs.Table.{cut, insertAll}
 use Rattle.planner.specs.Pieces.{Placed, gap, Inserts}
-use Rattle.planner.proofs.PieceLists.{total-length, total-insert}
+use Rattle.stretches.proofs.PieceLists.{total-length, total-insert}
 use Rattle.sums.proofs.Inserted.{insert-later, insert-here}
-use Rattle.planner.proofs.Numbers.{numbers-append}
+use Rattle.stretches.proofs.Numbers.{numbers-append}
 use Rattle.rules.proofs.Numbers.{length-numbers}
-use Rattle.planner.proofs.Parts.{cut-fits, cut-crosses}
+use Rattle.stretches.proofs.Cuts.{cut-fits, cut-crosses}
 use Rattle.sums.proofs.Inserted.{length-insert}
 
 -- the list with a piece put in at the place r

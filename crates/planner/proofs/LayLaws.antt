@@ -13,11 +13,11 @@ use Rattle.rules.specs.Piece.{Piece, numbersOf}
 use Rattle.rules.specs.Layout.{Walk, ahead, stretch}
 use Rattle.rules.specs.Table.{cut, insertAll, piecesOn, coreTo, coresTo}
 use Rattle.sums.proofs.Sum.{sum-term, sum-mono}
-use Rattle.planner.specs.Certificate.{cell}
+use Rattle.stretches.specs.Cell.{cell}
 use Rattle.planner.specs.Pieces.{alone, taskPieces, corePieces, startsOf, coresPieces, Inserts, Appends, OnCore, OnCores}
-use Rattle.planner.proofs.Parts.{pieces-none, pieces-some}
-use Rattle.planner.proofs.Counts.{length-insert-all, length-core, crosses, part-at-most}
-use Rattle.planner.proofs.Numbers.{numbers-append}
+use Rattle.stretches.proofs.Cuts.{pieces-none, pieces-some}
+use Rattle.stretches.proofs.Lengths.{length-insert-all, length-core, crosses, part-at-most}
+use Rattle.stretches.proofs.Numbers.{numbers-append}
 
 module _ (F n : ℕ) (units : List ℕ) (core start first : ℕ) (g : OnCore F n units core start first) where
   pub task-none : (from count task : ℕ) (l : List ℕ) → cell units task core ≡ 0

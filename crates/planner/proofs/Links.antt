@@ -7,7 +7,7 @@ use native.Mathlib.Omega.{arith}
 use Rattle.rules.specs.Sum.{sumTo, positive}
 use Rattle.rules.specs.Sets.{has}
 use Rattle.sums.proofs.Sum.{positive-of}
-use Rattle.planner.specs.Stripping.{there, links}
+use Rattle.forest.specs.Stripping.{there, links}
 
 pub link-some : (units gone : ℕ) → gone ≡ 0 → 0 < units → 1 ≡ (1 - gone) * positive units
 link-some units gone e p = rw (e, positive-of units p)

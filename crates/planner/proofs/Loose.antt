@@ -13,8 +13,9 @@ use Rattle.rules.specs.Sum.{sumTo, put}
 use Rattle.rules.specs.Sets.{has}
 use Rattle.sums.proofs.Sum.{sum-cong, sum-put, sum-put-past, put-same, put-other}
 use Rattle.sums.proofs.Sets.{with-same, with-other}
-use Rattle.planner.specs.Stripping.{there, links, FirstLoose, Fast, Stripping}
-use Rattle.planner.proofs.Strip.{strip-task, strip-core}
+use Rattle.forest.specs.Stripping.{there, links, Fast, Stripping}
+use Rattle.planner.specs.Loose.{FirstLoose}
+use Rattle.forest.proofs.Strip.{strip-task, strip-core}
 
 abbrev pub Stays : ℕ → ℕ → Bool → Type 0
 Stays gone count r = (r ≡ false → gone ≡ 0) × (r ≡ false → count ≤ 1) × (r ≡ true → gone ≡ 0 → 2 ≤ count)
@@ -54,24 +55,6 @@ module _ (gone : ℕ) (count : ℕ → ℕ) where
     where
       no : {a b : ℕ} → a < b → b ≤ a → ⊥
       no w q = omega arith
-
--- one vertex less is still there
-pub fewer-there : (n g v : ℕ) → v < n → has g v ≡ 0 → sumTo n (there (bitOr g (2 ^ v))) < sumTo n (there g)
-fewer-there n g v l z =
-    less (sum-cong n {f = there (bitOr g (2 ^ v))} {g = put v 0 (there g)} same) (sum-put n v 0 (there g) l) (one z)
-  where
-    same : (i : ℕ) → i < n → there (bitOr g (2 ^ v)) i ≡ put v 0 (there g) i
-    same i k =
-        elim (ℕ-discrete i v) [
-          | yes e ↦ ap (λ (w : ℕ). there (bitOr g (2 ^ v)) w) e ∙ ap (λ (w : ℕ). 1 - w) (with-same g v) ∙ sym (put-same v 0 (there g)) ∙ ap (λ (w : ℕ). put v 0 (there g) w) (sym e)
-          | no ne ↦ ap (λ (w : ℕ). 1 - w) (with-other g v i ne) ∙ sym (put-other v 0 (there g) i ne)
-        ]
-
-    one : has g v ≡ 0 → there g v ≡ 1
-    one z = ap (λ (w : ℕ). 1 - w) z
-
-    less : {a b c d : ℕ} → a ≡ b → b + c ≡ d + 0 → c ≡ 1 → a < d
-    less p q r = omega arith
 
 module _ (n m : ℕ) (x : ℕ → ℕ → ℕ) (g h : ℕ) (s : Stripping n m x g h) where
   pub peel-task : (r b : ℕ) → FirstLoose n g (links m h x) r → r < n → b ≡ bitOr g (2 ^ r) → Stripping n m x b h

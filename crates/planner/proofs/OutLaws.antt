@@ -9,18 +9,19 @@ use lib.ListN.{length, drop}
 use Rattle.rules.specs.Piece.{Piece, numbersOf}
 use Rattle.rules.specs.Layout.{Walk, layout}
 use Rattle.rules.specs.Table.{coresTo, tableOf}
-use Rattle.planner.specs.Certificate.{cell}
-use Rattle.planner.specs.Ready.{Ready}
-use Rattle.planner.specs.Small.{Small}
-use Rattle.planner.specs.Walking.{walkOf, Kept, Bounded}
+use Rattle.stretches.specs.Cell.{cell}
+use Rattle.frames.specs.Ready.{Ready}
+use Rattle.stretches.specs.Small.{Small}
+use Rattle.planner.specs.Walking.{walkOf, Kept}
+use Rattle.stretches.specs.Small.{Bounded}
 use Rattle.planner.specs.Pieces.{coresPieces, OnCores}
 use Rattle.planner.specs.declared.walking.Marks.{Marks}
-use Rattle.planner.proofs.LaidOut.{layout-firsts}
-use Rattle.planner.proofs.Bounds.{bounded-more, bounded-visits}
-use Rattle.planner.proofs.Cells.{cell-at}
-use Rattle.planner.proofs.Agree.{layout-agree, cores-agree}
+use Rattle.frames.proofs.LaidOut.{layout-firsts}
+use Rattle.stretches.proofs.Bounds.{bounded-more, bounded-visits}
+use Rattle.stretches.proofs.Cells.{cell-at}
+use Rattle.stretches.proofs.Agree.{layout-agree, cores-agree}
 use Rattle.planner.proofs.LayLaws.{cores-starts}
-use Rattle.planner.proofs.FrameTables.{read, made-length, table-made}
+use Rattle.frames.proofs.FrameTables.{read, made-length, table-made}
 
 pub ready-small : {F n m : ℕ} {x : ℕ → ℕ → ℕ} → Ready F n m x → Small n m x
 ready-small r =

@@ -26,20 +26,20 @@ use Rattle.rules.specs.declared.Answer.{Answer}
 use Rattle.rules.specs.declared.Answer.the-variants.{Accepted, Overloaded}
 use Rattle.rules.specs.declared.Planned.{Planned}
 use Rattle.sums.proofs.Sets.{has-lt}
-use Rattle.planner.specs.Fill.{Given}
-use Rattle.planner.specs.Plan.{DecideReady}
-use Rattle.planner.specs.Ready.{Ready}
-use Rattle.planner.proofs.Apart.{loop-free-comes-apart}
-use Rattle.planner.proofs.Forest.{extra-below-cores}
-use Rattle.planner.proofs.PieceLists.{Every, every-map, every-true}
-use Rattle.planner.proofs.FrameTables.{Allowed, table-is-frame-table, pieces-at-most, budgets-exact, cores-allowed, never-two-at-once}
-use Rattle.planner.proofs.Exists.{allocation-or-overload, overloaded-exactly-without-allocation}
-use Rattle.planner.proofs.Verdict.{allocation-fits-every-group, smallest-group-is-unique}
-use Rattle.planner.proofs.Unlooped.{allocation-without-loops}
-use Rattle.planner.proofs.Numbers.{pieces-of-numbers}
-use Rattle.planner.proofs.NoTable.{both-right, table-is-allocation}
-use Rattle.planner.proofs.Collected.{smallest-holds-no-zero}
-use Rattle.planner.proofs.PassedLaws.{passed-set, passed-ready}
+use Rattle.tests.specs.Given.{Given}
+use Rattle.tests.specs.Given.{DecideReady}
+use Rattle.frames.specs.Ready.{Ready}
+use Rattle.forest.proofs.Apart.{loop-free-comes-apart}
+use Rattle.forest.proofs.Forest.{extra-below-cores}
+use Rattle.stretches.proofs.PieceLists.{Every, every-map, every-true}
+use Rattle.frames.proofs.FrameTables.{Allowed, table-is-frame-table, pieces-at-most, budgets-exact, cores-allowed, never-two-at-once}
+use Rattle.overload.proofs.Exists.{allocation-or-overload, overloaded-exactly-without-allocation}
+use Rattle.overload.proofs.Verdict.{allocation-fits-every-group, smallest-group-is-unique}
+use Rattle.forest.proofs.Unlooped.{allocation-without-loops}
+use Rattle.stretches.proofs.Numbers.{pieces-of-numbers}
+use Rattle.frames.proofs.NoTable.{both-right, table-is-allocation}
+use Rattle.overload.proofs.Collected.{smallest-holds-no-zero}
+use Rattle.tests.proofs.PassedLaws.{passed-set, passed-ready}
 
 -- an allocation within the sizes, without a loop: the table that document 01 fixes for it obeys the rules
 module _ (F n m : ℕ) (budget mask : ℕ → ℕ) (x : ℕ → ℕ → ℕ) (some : 1 ≤ F) (most : F ≤ 1000000) (tasks : n ≤ 64) (cores : 1 ≤ m) (few : m ≤ 16)

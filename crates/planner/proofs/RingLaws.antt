@@ -11,9 +11,10 @@ use borrow.Author.Tests.{eq-eqb, ne-eqb}
 use lib.ListN.{length}
 use Rattle.rules.specs.Sum.{sumTo, put}
 use Rattle.sums.proofs.Sum.{sum-two}
-use Rattle.planner.specs.Certificate.{cell}
-use Rattle.planner.specs.Ring.{Moved, prior, Ring, Named, Least, ShiftReady, Shifted, Kept, edges}
-use Rattle.planner.proofs.Shifting.{shifted-none, shifted-more, shifted-kept, shifted-edges}
+use Rattle.stretches.specs.Cell.{cell}
+use Rattle.forest.specs.Ring.{Moved, prior, Ring, Least, Shifted, Kept, edges}
+use Rattle.planner.specs.Shifts.{Named, ShiftReady}
+use Rattle.forest.proofs.Shifting.{shifted-none, shifted-more, shifted-kept, shifted-edges}
 
 module _ (x : ℕ → ℕ → ℕ) (task core : ℕ → ℕ) (lo : ℕ) where
   pub least-one : (d : ℕ) → d ≡ x (task lo) (core lo) → Least x task core lo (lo + 1) d

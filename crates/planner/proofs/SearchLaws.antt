@@ -12,12 +12,11 @@ use lib.Seq.{getD-set-same, getD-set-other}
 use Rattle.rules.specs.Sum.{sumTo}
 use Rattle.rules.specs.Sets.{has}
 use Rattle.rules.specs.Plan.{at}
-use Rattle.sums.proofs.Sum.{sum-lt, sum-const, sum-count, sum-zero}
+use Rattle.sums.proofs.Sum.{sum-but-one, sum-lt, sum-const, sum-count, sum-zero}
 use Rattle.sums.proofs.Sets.{has-none, has-le-one, has-or, has-lt, with-same, with-other, with-keeps, with-lt}
-use Rattle.planner.specs.Certificate.{cell}
+use Rattle.stretches.specs.Cell.{cell}
 use Rattle.planner.specs.declared.search.Seen.{Seen}
 use Rattle.planner.specs.Search.{Found, Reached, Swept}
-use Rattle.planner.proofs.StepLaws.{sum-change}
 
 clash : {a : ℕ} → a ≡ 0 → a ≡ 1 → ⊥
 clash e f = omega arith
@@ -41,7 +40,7 @@ module _ (m c j : ℕ) (l : j < m) (z : has c j ≡ 0) where
 
   pub count-more : sumTo m (has (bitOr c (2 ^ j))) ≡ sumTo m (has c) + 1
   count-more =
-      one (sumTo m (has c)) (sum-change m j (has c) (has (bitOr c (2 ^ j))) l (λ i k ne. with-other c j i ne)) z (with-same c j)
+      one (sumTo m (has c)) (sum-but-one m j (has (bitOr c (2 ^ j))) (has c) l (λ i k ne. with-other c j i ne)) z (with-same c j)
     where
       one : {a f g : ℕ} (b : ℕ) → a + f ≡ b + g → f ≡ 0 → g ≡ 1 → a ≡ b + 1
       one b e f g = omega arith

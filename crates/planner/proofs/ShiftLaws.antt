@@ -4,7 +4,7 @@ use mathlib.Core.Path.{_≡_, _∙_}
 use mathlib.Core.List.{List}
 use Prim.Native.Nat.{ℕ, _+_, _*_, _≤_, _<_}
 use Rattle.rules.specs.Plan.{at}
-use Rattle.planner.specs.Certificate.{cell}
+use Rattle.stretches.specs.Cell.{cell}
 use Rattle.planner.specs.Fill.{raise, lower}
 use Rattle.planner.specs.Back.{ShiftFits, Shifted, Placed}
 

@@ -10,20 +10,9 @@ use lib.Seq.{getD-set-same, getD-set-other, set-set, set-getD}
 use Rattle.rules.specs.Sum.{sumTo, put}
 use Rattle.rules.specs.Sets.{has}
 use Rattle.rules.specs.Plan.{at}
-use Rattle.sums.proofs.Sum.{put-same, put-other, sum-put, sum-cong, sum-term}
-use Rattle.planner.specs.Certificate.{cell}
+use Rattle.sums.proofs.Sum.{sum-but-one, put-same, put-other, sum-put, sum-cong, sum-term}
+use Rattle.stretches.specs.Cell.{cell}
 use Rattle.planner.specs.Fill.{Filling, raise, lower}
-
--- one term changed
-pub sum-change : (n k : ℕ) (f g : ℕ → ℕ) → k < n → ((i : ℕ) → i < n → (i ≡ k → ⊥) → g i ≡ f i) → sumTo n g + f k ≡ sumTo n f + g k
-sum-change n k f g l h = ap (λ (s : ℕ). s + f k) (sum-cong n same) ∙ sum-put n k (g k) f l
-  where
-    same : (i : ℕ) → i < n → g i ≡ put k (g k) f i
-    same i u =
-        elim (ℕ-discrete i k) [
-          | yes e ↦ ap g e ∙ sym (put-same k (g k) f) ∙ ap (put k (g k) f) (sym e)
-          | no ne ↦ h i u ne ∙ sym (put-other k (g k) f i ne)
-        ]
 
 pub raise-same : (l : List ℕ) (k d : ℕ) → k < length l → at (raise l k d) k ≡ at l k + d
 unfolding raise
@@ -95,7 +84,7 @@ module _ {F m : ℕ} {budgets masks units left room : List ℕ} (f : Filling F m
   -- what is held of one task or on one core, after a change of one cell
   row-change : (other : List ℕ) → Elsewhere other → sumTo m (cell other i) + cell units i j ≡ sumTo m (cell units i) + cell other i j
   unfolding Elsewhere
-  row-change other e = sum-change m j (cell units i) (cell other i) j-in (λ b l ne. e i b (small l) (λ p. ne (p .1)))
+  row-change other e = sum-but-one m j (cell other i) (cell units i) j-in (λ b l ne. e i b (small l) (λ p. ne (p .1)))
     where
       small : {b : ℕ} → b < m → b < 16
       small l = omega (arith, f .given .cores)
@@ -111,7 +100,7 @@ module _ {F m : ℕ} {budgets masks units left room : List ℕ} (f : Filling F m
       → sumTo (length budgets) (λ a. cell other a j) + cell units i j ≡ sumTo (length budgets) (λ a. cell units a j) + cell other i j
   unfolding Elsewhere
   column-change other e =
-      sum-change (length budgets) i (λ a. cell units a j) (λ a. cell other a j) i-in (λ a l ne. e a j j-small (λ p. ne (p .0)))
+      sum-but-one (length budgets) i (λ a. cell other a j) (λ a. cell units a j) i-in (λ a l ne. e a j j-small (λ p. ne (p .0)))
 
   column-same : (other : List ℕ) → Elsewhere other → (b : ℕ) → b < 16 → (b ≡ j → ⊥)
       → sumTo (length budgets) (λ a. cell other a b) ≡ sumTo (length budgets) (λ a. cell units a b)

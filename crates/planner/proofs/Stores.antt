@@ -6,8 +6,8 @@ use Prim.Native.Nat.{ℕ, _+_, _-_, _*_, _^_, _≤_, _<_}
 use native.Mathlib.Omega.{arith}
 use lib.ListN.{length, getD, set, length-set}
 use lib.Seq.{getD-set-same, getD-set-other}
-use Rattle.planner.specs.Certificate.{cell}
-use Rattle.planner.specs.Ring.{Moved}
+use Rattle.stretches.specs.Cell.{cell}
+use Rattle.forest.specs.Ring.{Moved}
 
 -- two cells are one place only if task and core are the same
 pub same-task : (i t j k : ℕ) → j < 16 → k < 16 → i * 16 + j ≡ t * 16 + k → i ≡ t

@@ -11,11 +11,14 @@ use Rattle.rules.specs.Sum.{sumTo, positive}
 use Rattle.rules.specs.Sets.{has}
 use Rattle.sums.proofs.Sum.{sum-zero}
 use Rattle.sums.proofs.Sets.{has-lt, has-zero}
-use Rattle.planner.specs.Certificate.{cell, Peeled}
-use Rattle.planner.specs.Stripping.{there, links, Stripping, Fast}
-use Rattle.planner.specs.Ring.{Ring, Named, Least, ShiftReady, Kept, edges}
-use Rattle.planner.specs.Path.{FirstThere, SeekReady}
-use Rattle.planner.proofs.Strip.{strip-fewer, strip-whole}
+use Rattle.stretches.specs.Cell.{cell}
+use Rattle.forest.specs.Peeled.{Peeled}
+use Rattle.forest.specs.Stripping.{there, links, Stripping, Fast}
+use Rattle.forest.specs.Ring.{Ring, Least, Kept, edges}
+use Rattle.planner.specs.Shifts.{Named, ShiftReady}
+use Rattle.forest.specs.Path.{FirstThere}
+use Rattle.planner.specs.Seeking.{SeekReady}
+use Rattle.forest.proofs.Strip.{strip-fewer, strip-whole}
 
 module _ (gone : ℕ) where
   abbrev pub GoneBelow : ℕ → Type 0
@@ -35,17 +38,6 @@ module _ (gone : ℕ) where
     where
       past : i < n → n ≤ i → ⊥
       past p q = omega arith
-
-pub kept-none : (n m : ℕ) (x : ℕ → ℕ → ℕ) → Kept n m x x
-kept-none n m x = record { rows = λ a l. refl; columns = λ j l. refl; fewer = λ a l j k p. p }
-
-pub kept-more : (n m : ℕ) (x y z : ℕ → ℕ → ℕ) → Kept n m x y → Kept n m y z → Kept n m x z
-kept-more n m x y z p q =
-    record {
-      rows = λ a l. q .rows a l ∙ p .rows a l;
-      columns = λ j l. q .columns j l ∙ p .columns j l;
-      fewer = λ a l j k u. p .fewer a l j k (q .fewer a l j k u);
-    }
 
 module _ (n m : ℕ) (x y : ℕ → ℕ → ℕ) (kept : Kept n m x y) where
   pub kept-small : ((a : ℕ) → a < n → sumTo m (x a) ≤ 1000000) → (a : ℕ) → a < n → sumTo m (y a) ≤ 1000000
@@ -67,29 +59,6 @@ module _ (n m : ℕ) (x : ℕ → ℕ → ℕ) (task core : ℕ → ℕ) (lo hi 
 
   pub ring-ready : (d : ℕ) → Least x task core lo hi d → ((c : ℕ) → c < n → sumTo m (x c) ≤ 1000000) → ShiftReady n m x task core lo hi d
   ring-ready d least small = record { tasks = a; cores = b; places = places; ring = r; least = least; small = small }
-
--- all tasks are gone, and nothing is loose: then no core is left either
-pub all-gone : (n m : ℕ) (x : ℕ → ℕ → ℕ) (g h r : ℕ) → Stripping n m x g h → Fast n m x g h → FirstThere n g r → n ≤ r → Peeled n m x
-unfolding links
-all-gone n m x g h r s f t l = strip-whole n m x g h s tasks cores
-  where
-    tasks : (i : ℕ) → i < n → has g i ≡ 1
-    tasks i k = t .before i (omega arith)
-
-    nothing : (j : ℕ) → sumTo n (λ i. there g i * positive (x i j)) ≡ 0
-    nothing j = sum-zero n (λ i k. ap (λ (v : ℕ). (1 - v) * positive (x i j)) (tasks i k) ∙ none (positive (x i j)))
-      where
-        none : (v : ℕ) → (1 - 1) * v ≡ 0
-        none v = omega arith
-
-    cores : (j : ℕ) → j < m → has h j ≡ 1
-    cores j k = elim (ℕ-discrete (has h j) 0) [ yes z ↦ absurd (few (f .cores-fast j k z) (nothing j)) | no ne ↦ one (has-lt h j) ne ]
-      where
-        few : {v : ℕ} → 2 ≤ v → v ≡ 0 → ⊥
-        few p q = omega arith
-
-        one : {v : ℕ} → v < 2 → (v ≡ 0 → ⊥) → v ≡ 1
-        one p q = omega arith
 
 pub seek-ready : (n m : ℕ) (x : ℕ → ℕ → ℕ) (g h r : ℕ) → n ≤ 64 → m ≤ 16 → Fast n m x g h → FirstThere n g r → r < n → SeekReady n m x g h r
 seek-ready n m x g h r a b f t l = record { tasks = a; cores = b; below = l; still = t .still l; fast = f }

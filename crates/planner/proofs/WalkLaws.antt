@@ -20,14 +20,15 @@ use Rattle.rules.specs.Sets.{has}
 use Rattle.rules.specs.Layout.{Walk, ahead, stretch, begun, reachOne, reach, meetMark, meetOne, meet, visitMark, visit, waiting, unvisited, nextCore, visits, layout}
 use Rattle.sums.proofs.Sum.{put-same, put-other}
 use Rattle.sums.proofs.Sets.{has-with, has-none, has-le-one}
-use Rattle.planner.specs.Certificate.{cell, Peeled}
-use Rattle.planner.specs.Small.{Small}
+use Rattle.stretches.specs.Cell.{cell}
+use Rattle.forest.specs.Peeled.{Peeled}
+use Rattle.stretches.specs.Small.{Small}
 use Rattle.planner.specs.Walking.{walkOf, Kept, Reaching, Meeting}
 use Rattle.planner.specs.declared.walking.Marks.{Marks}
-use Rattle.planner.proofs.LaidOut.{next-core, visits-state}
+use Rattle.frames.proofs.LaidOut.{next-core, visits-state}
 use Rattle.sums.proofs.Lowest.{lowest-none, lowest-more, lowest-found, lowest-same}
-use Rattle.planner.proofs.Bounds.{bounded-more, bounded-meet, bounded-visits}
-use Rattle.planner.proofs.Reaching.{one-none, one-here, one-moved, meet-none, meet-old, meet-fresh}
+use Rattle.stretches.proofs.Bounds.{bounded-more, bounded-meet, bounded-visits}
+use Rattle.stretches.proofs.Reaching.{one-none, one-here, one-moved, meet-none, meet-old, meet-fresh}
 
 -- an entry stored is the function with that value there
 pub get-set : (l : List ℕ) (k v : ℕ) → k < length l → (λ (i : ℕ). getD (set l k v) i 0) ≡ put k v (λ i. getD l i 0)

@@ -10,9 +10,10 @@ use borrow.Author.Tests.{ltb-true, ltb-false}
 use lib.Dec.{ltb}
 use Rattle.rules.specs.Sum.{sumTo, positive}
 use Rattle.rules.specs.Sets.{has}
-use Rattle.planner.specs.Stripping.{there, links}
-use Rattle.planner.specs.Path.{Other, Place, Suits, Came}
-use Rattle.planner.proofs.Pigeon.{sum-one}
+use Rattle.forest.specs.Stripping.{there, links}
+use Rattle.forest.specs.Path.{Other, Place}
+use Rattle.planner.specs.Seeking.{Suits, Came}
+use Rattle.sums.proofs.Pigeon.{sum-one}
 use Rattle.planner.proofs.Links.{link-empty, link-gone}
 
 pub suits-back : (units gone at from : ℕ) → at ≡ from → Suits units gone at from false

@@ -6,7 +6,7 @@ use mathlib.Core.List.{List}
 use Prim.Native.Nat.{ℕ, min, _+_, _*_, _≤_, _<_}
 use Rattle.rules.specs.Sets.{has}
 use Rattle.rules.specs.Plan.{at}
-use Rattle.planner.specs.Certificate.{cell}
+use Rattle.stretches.specs.Cell.{cell}
 use Rattle.planner.specs.Fill.{raise, lower}
 
 -- d units of task t go from core j to core k

@@ -7,16 +7,7 @@ use lib.ListN.{length, getD, set}
 use Rattle.rules.specs.Sum.{sumTo}
 use Rattle.rules.specs.Sets.{has}
 use Rattle.rules.specs.Plan.{at}
-use Rattle.planner.specs.Certificate.{cell}
-
--- what the tests 1 to 5 leave: frame, cores and tasks within their sizes, masks below 2^m, budgets within the frame
-pub record Given (F m : ℕ) (budgets masks : List ℕ) : Type 0 where
-  pub frame : F ≤ 1000000
-  pub cores : m ≤ 16
-  pub tasks : length budgets ≤ 64
-  pub paired : length masks ≡ length budgets
-  pub narrow : (i : ℕ) → i < length budgets → at masks i < 2 ^ m
-  pub small : (i : ℕ) → i < length budgets → at budgets i ≤ F
+use Rattle.stretches.specs.Cell.{cell}
 
 -- what fill asks: sizes as tested, and no units yet
 pub record FillReady (F m : ℕ) (budgets masks units : List ℕ) : Type 0 where

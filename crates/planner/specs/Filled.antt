@@ -9,7 +9,7 @@ use Rattle.rules.specs.Sets.{has, union}
 use Rattle.rules.specs.Plan.{at}
 use Rattle.rules.specs.Allocation.{Allocation}
 use Rattle.rules.specs.Excess.{Exceeds, Smallest}
-use Rattle.planner.specs.Certificate.{cell}
+use Rattle.stretches.specs.Cell.{cell}
 use Rattle.planner.specs.Fill.{Filling}
 use Rattle.planner.specs.declared.flow.Filled.{Filled}
 use Rattle.planner.specs.declared.flow.Filled.the-variants.{Whole, Short}

@@ -10,7 +10,7 @@ use Rattle.rules.specs.Piece.{Piece, numbersOf}
 use Rattle.rules.specs.Sum.{sumTo}
 use Rattle.rules.specs.Table.{insertAll, piecesOn, coreTo, coresTo}
 use Rattle.rules.specs.Layout.{Walk}
-use Rattle.planner.specs.Certificate.{cell}
+use Rattle.stretches.specs.Cell.{cell}
 
 -- the place r of a piece that starts at `start` among the pieces from `from` up to `count`
 pub record Placed (l : List ℕ) (from count start r : ℕ) : Type 0 where

@@ -9,13 +9,7 @@ use Rattle.rules.specs.Allocation.{Allocation}
 use Rattle.rules.specs.Loops.{LoopFree}
 use Rattle.rules.specs.Table.{tableOf}
 use Rattle.rules.specs.Plan.{at}
-use Rattle.planner.specs.Fill.{Given}
-
-pub record DecideReady (F m : ℕ) (budgets masks table : List ℕ) : Type 0 where
-  pub given : Given F m budgets masks
-  pub frame-some : 1 ≤ F
-  pub cores-some : 1 ≤ m
-  pub room : length budgets + 2 * m ≤ length table / 4 + 1
+use Rattle.tests.specs.Given.{Given}
 
 -- the table of an allocation without loops, x, stands in the lent list
 pub record Settled (F m : ℕ) (budgets masks before : List ℕ) (r : ℕ) (after : List ℕ) (x : ℕ → ℕ → ℕ) : Type 0 where

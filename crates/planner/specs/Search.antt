@@ -8,8 +8,8 @@ use lib.ListN.{length}
 use Rattle.rules.specs.Sum.{sumTo}
 use Rattle.rules.specs.Sets.{has}
 use Rattle.rules.specs.Plan.{at}
-use Rattle.planner.specs.Certificate.{cell}
-use Rattle.planner.specs.Flow.{Stuck}
+use Rattle.stretches.specs.Cell.{cell}
+use Rattle.overload.specs.Flow.{Stuck}
 use Rattle.planner.specs.declared.search.Seen.{Seen}
 use Rattle.planner.specs.declared.search.Outcome.{Outcome}
 use Rattle.planner.specs.declared.search.Outcome.the-variants.{Room, Closed}

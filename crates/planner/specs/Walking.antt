@@ -8,8 +8,8 @@ use lib.ListN.{length, getD}
 use Rattle.rules.specs.Sum.{sumTo}
 use Rattle.rules.specs.Sets.{has}
 use Rattle.rules.specs.Layout.{Walk}
-use Rattle.planner.specs.Certificate.{cell}
-use Rattle.planner.specs.Small.{Small}
+use Rattle.stretches.specs.Cell.{cell}
+use Rattle.stretches.specs.Small.{Small}
 use Rattle.planner.specs.declared.walking.Marks.{Marks}
 
 -- the walk that the code's values stand for
@@ -28,11 +28,6 @@ pub record Kept (w : Walk) (s : Marks) (start first : List ℕ) : Type 0 where
   pub same : walkOf s start first ≡ w
   pub start-long : length start ≡ 16
   pub first-long : length first ≡ 16
-
--- the starts are small, and cores were reached through tasks that there are
-pub record Bounded (n b : ℕ) (w : Walk) : Type 0 where
-  pub starts : (k : ℕ) → w .start k ≤ b
-  pub firsts : (k : ℕ) → w .first k ≤ n
 
 -- before a task reaches its cores
 pub record Reaching (m : ℕ) (units : List ℕ) (task core at : ℕ) (start first : List ℕ) : Type 0 where

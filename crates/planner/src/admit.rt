@@ -5,7 +5,7 @@ ghost use Prim.Native.Nat.{_+_, _/_, _≤_, _<_};
 ghost use lib.ListN.{length};
 ghost use Rattle.rules.specs.Sum.{firstAt};
 ghost use Rattle.rules.specs.Tests.{badMask, badBudget, tested};
-ghost use Rattle.planner.specs.Verdict.{verdictOf, testedTasks};
+ghost use Rattle.tests.specs.Verdict.{verdictOf, testedTasks};
 
 // Whether a mask is empty or has a bit at or above the number of cores.
 fn bad_mask(mask: u16, cores: u32) -> bool

@@ -6,7 +6,7 @@ ghost use Prim.Native.Nat.{suc, _≤_, _<_};
 ghost use lib.Dec.{eqb};
 ghost use Rattle.rules.specs.Sum.{sumTo, put};
 ghost use Rattle.rules.specs.Layout.{ahead};
-ghost use Rattle.planner.specs.Certificate.{cell};
+ghost use Rattle.stretches.specs.Cell.{cell};
 
 // A term of a sum that leaves one out.
 fn unless(value: u32, i: usize, skip: usize) -> u32

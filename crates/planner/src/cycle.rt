@@ -10,10 +10,11 @@ ghost use lib.ListN.{length};
 ghost use Rattle.rules.specs.Sum.{positive};
 ghost use Rattle.rules.specs.Sets.{has};
 ghost use Rattle.rules.specs.Plan.{at};
-ghost use Rattle.planner.specs.Certificate.{cell};
-ghost use Rattle.planner.specs.Stripping.{links, Fast};
-ghost use Rattle.planner.specs.Ring.{Ring};
-ghost use Rattle.planner.specs.Path.{Other, Place, Suits, Came, SeekReady};
+ghost use Rattle.stretches.specs.Cell.{cell};
+ghost use Rattle.forest.specs.Stripping.{links, Fast};
+ghost use Rattle.forest.specs.Ring.{Ring};
+ghost use Rattle.forest.specs.Path.{Other, Place};
+ghost use Rattle.planner.specs.Seeking.{Suits, Came, SeekReady};
 
 // Whether a vertex has units, is still there, and is not the one we came from.
 fn suits(units: u32, gone: u64, at: usize, from: usize) -> bool

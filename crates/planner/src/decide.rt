@@ -7,9 +7,10 @@ use rules::Answer;
 use rules::Planned;
 ghost use Prim.Native.Nat.{_≤_};
 ghost use Rattle.rules.specs.Plan.{Decided};
-ghost use Rattle.planner.specs.Certificate.{cell};
+ghost use Rattle.stretches.specs.Cell.{cell};
 ghost use Rattle.planner.specs.Filled.{WholeBy};
-ghost use Rattle.planner.specs.Plan.{DecideReady, Settled};
+ghost use Rattle.tests.specs.Given.{DecideReady};
+ghost use Rattle.planner.specs.Plan.{Settled};
 
 // An allocation loses its loops, and its table is written.
 fn settle(

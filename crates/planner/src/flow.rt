@@ -2,7 +2,7 @@
 ghost use mathlib.Core.Path.{_≡_};
 ghost use Prim.Native.Nat.{_+_, _≤_, _<_};
 ghost use lib.ListN.{length};
-ghost use Rattle.planner.specs.Certificate.{cell};
+ghost use Rattle.stretches.specs.Cell.{cell};
 ghost use Rattle.planner.specs.Search.{Sized};
 ghost use Rattle.rules.specs.Plan.{at};
 ghost use Rattle.planner.specs.Fill.{Filling, FillReady, Copied};

@@ -7,8 +7,9 @@ ghost use mathlib.Core.Path.{_≡_};
 ghost use mathlib.Core.Bool.{true, false};
 ghost use Prim.Native.Nat.{ℕ, _-_, _*_, _≤_, _<_};
 ghost use Rattle.rules.specs.Sum.{positive};
-ghost use Rattle.planner.specs.Certificate.{cell};
-ghost use Rattle.planner.specs.Stripping.{links, FirstLoose, Fast, Stripping};
+ghost use Rattle.stretches.specs.Cell.{cell};
+ghost use Rattle.forest.specs.Stripping.{links, Fast, Stripping};
+ghost use Rattle.planner.specs.Loose.{FirstLoose};
 
 // 1 if there are units towards a vertex that is still there, else 0.
 fn link(units: u32, gone: u64) -> usize

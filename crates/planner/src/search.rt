@@ -9,7 +9,7 @@ ghost use Rattle.rules.specs.Sum.{sumTo};
 ghost use Rattle.rules.specs.Sets.{has};
 ghost use Rattle.rules.specs.Plan.{at};
 ghost use Rattle.planner.specs.Search.{Reached, Swept, Sized, Sight, nothing};
-ghost use Rattle.planner.specs.Certificate.{cell};
+ghost use Rattle.stretches.specs.Cell.{cell};
 use crate::sets::core_in;
 use crate::sets::task_in;
 use crate::sets::with_core;

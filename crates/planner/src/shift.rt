@@ -4,8 +4,9 @@ ghost use mathlib.Core.Path.{_≡_};
 ghost use Prim.Native.Nat.{ℕ, _+_, _^_, _≤_, _<_};
 ghost use lib.ListN.{length};
 ghost use Rattle.rules.specs.Plan.{at};
-ghost use Rattle.planner.specs.Certificate.{cell};
-ghost use Rattle.planner.specs.Ring.{Moved, prior, Named, Least, ShiftReady, Kept, edges};
+ghost use Rattle.stretches.specs.Cell.{cell};
+ghost use Rattle.forest.specs.Ring.{Moved, prior, Least, Kept, edges};
+ghost use Rattle.planner.specs.Shifts.{Named, ShiftReady};
 
 // d units of a task go from one core to another.
 fn move_units(units: &mut [u32; 1024], task: usize, from: usize, to: usize, d: u32)

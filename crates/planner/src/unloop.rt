@@ -9,9 +9,11 @@ ghost use mathlib.Core.Path.{_≡_};
 ghost use Prim.Native.Nat.{ℕ, _≤_, _<_};
 ghost use lib.ListN.{length};
 ghost use Rattle.rules.specs.Sum.{sumTo};
-ghost use Rattle.planner.specs.Certificate.{cell, Peeled};
-ghost use Rattle.planner.specs.Ring.{Kept, edges};
-ghost use Rattle.planner.specs.Path.{FirstThere, SeekReady};
+ghost use Rattle.stretches.specs.Cell.{cell};
+ghost use Rattle.forest.specs.Peeled.{Peeled};
+ghost use Rattle.forest.specs.Ring.{Kept, edges};
+ghost use Rattle.forest.specs.Path.{FirstThere};
+ghost use Rattle.planner.specs.Seeking.{SeekReady};
 
 // The lowest task that is still there; the number of tasks where all are gone.
 fn task_left(tasks: usize, gone: u64) -> usize

@@ -1,4 +1,6 @@
-pub mod Sum
-pub mod Sets
-pub mod Lowest
 pub mod Inserted
+pub mod Lowest
+pub mod Pigeon
+pub mod Sets
+pub mod Sum
+pub mod SumLoops

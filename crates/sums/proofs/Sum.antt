@@ -1,9 +1,8 @@
 -- Laws on finite sums of natural numbers, stated once for every crate.
 -- Assumes nothing.
 use mathlib.Core.Path.{_≡_, refl, sym, _∙_, ap, ap₂}
-use mathlib.Core.Bool.{Bool, true, false, cond}
 use Prim.Native.Nat.{ℕ, zero, suc, _+_, _*_, _≤_, _<_}
-use native.Mathlib.Nat.{le-refl, le-trans, lt-of-lt-of-le, le-of-lt, not-suc-le-zero, mul-add, mul-comm}
+use native.Mathlib.Nat.{le-refl, not-suc-le-zero, mul-add}
 use native.Mathlib.Decide.{ℕ-discrete, decLt, decLe}
 use native.Mathlib.Omega.{arith}
 use borrow.Author.Tests.{eq-eqb, ne-eqb}

@@ -1,5 +1,5 @@
 -- By the two tests. Assumes nothing.
-use Rattle.planner.proofs.FirstLaws.{mask-empty, mask-shifted}
+use Rattle.tests.proofs.FirstLaws.{mask-empty, mask-shifted}
 use borrow.Author.Needs.{needs}
 use borrow.Author.Needs.{needs}
 use Rattle.planner.proofs.admit.bad_mask.Statement.{statement}

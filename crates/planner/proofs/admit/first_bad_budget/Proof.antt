@@ -2,7 +2,7 @@
 use Prim.Native.Nat.{_-_, _≤_}
 use lib.ListN.{length}
 use Rattle.rules.specs.Tests.{badBudget}
-use Rattle.planner.proofs.FirstLaws.{NoneBefore, first-begins, first-hit, first-more, first-end, budget-above, budget-within}
+use Rattle.tests.proofs.FirstLaws.{NoneBefore, first-begins, first-hit, first-more, first-end, budget-above, budget-within}
 use borrow.Author.Needs.{needs}
 use Rattle.planner.proofs.admit.first_bad_budget.Statement.{statement}
 use Rattle.planner.proofs.admit.first_bad_budget.Tie as tie

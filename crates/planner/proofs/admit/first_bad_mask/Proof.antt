@@ -2,7 +2,7 @@
 use Prim.Native.Nat.{_-_, _≤_}
 use lib.ListN.{length}
 use Rattle.rules.specs.Tests.{badMask}
-use Rattle.planner.proofs.FirstLaws.{NoneBefore, first-begins, first-hit-by, first-more-by, first-end}
+use Rattle.tests.proofs.FirstLaws.{NoneBefore, first-begins, first-hit-by, first-more-by, first-end}
 use borrow.Author.Needs.{needs}
 use Rattle.planner.proofs.admit.first_bad_mask.Statement.{statement}
 use Rattle.planner.proofs.admit.first_bad_mask.Tie as tie

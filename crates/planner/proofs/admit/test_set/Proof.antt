@@ -1,5 +1,5 @@
 -- Each return by the tests that led to it. Assumes nothing.
-use Rattle.planner.proofs.TestLaws.{by-no-frame, by-long-frame, by-no-core, by-many-cores, by-many-tasks, by-unlike, by-tasks}
+use Rattle.tests.proofs.TestLaws.{by-no-frame, by-long-frame, by-no-core, by-many-cores, by-many-tasks, by-unlike, by-tasks}
 use borrow.Author.Needs.{needs}
 use borrow.Author.Needs.{needs}
 use Rattle.planner.proofs.admit.test_set.Statement.{statement}

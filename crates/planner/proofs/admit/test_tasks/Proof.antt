@@ -1,5 +1,5 @@
 -- Each return by the tests that led to it. Assumes nothing.
-use Rattle.planner.proofs.TestLaws.{by-mask, by-budget, by-room, by-none}
+use Rattle.tests.proofs.TestLaws.{by-mask, by-budget, by-room, by-none}
 use borrow.Author.Needs.{needs}
 use borrow.Author.Needs.{needs}
 use Rattle.planner.proofs.admit.test_tasks.Statement.{statement}

@@ -1,7 +1,7 @@
 -- `before::ahead_of_task` meets its contract.
 -- Assumes nothing.
 use borrow.Author.Needs.{needs}
-use Rattle.planner.specs.Certificate.{cell}
+use Rattle.stretches.specs.Cell.{cell}
 use Rattle.planner.proofs.AheadCode.{sum-part, task-itself, task-after, task-fits}
 use Rattle.planner.proofs.before.ahead_of_task.Statement.{statement}
 use Rattle.planner.proofs.before.ahead_of_task.Tie as tie

@@ -1,7 +1,7 @@
 -- `before::ahead_on_core` meets its contract.
 -- Assumes nothing.
 use borrow.Author.Needs.{needs}
-use Rattle.planner.specs.Certificate.{cell}
+use Rattle.stretches.specs.Cell.{cell}
 use Rattle.planner.proofs.AheadCode.{sum-part, ahead-root, ahead-itself, ahead-after, ahead-fits}
 use Rattle.planner.proofs.before.ahead_on_core.Statement.{statement}
 use Rattle.planner.proofs.before.ahead_on_core.Tie as tie

@@ -1,10 +1,10 @@
 -- `before::column` meets its contract.
 -- Assumes nothing.
 use borrow.Author.Needs.{needs}
-use Rattle.planner.proofs.SumLoops.{sum-none, sum-more, sum-done, put-fits}
+use Rattle.sums.proofs.SumLoops.{sum-none, sum-more, sum-done, put-fits}
 use mathlib.Core.Path.{_≡_}
 use Prim.Native.Nat.{_≤_, _-_}
-use Rattle.planner.specs.Certificate.{cell}
+use Rattle.stretches.specs.Cell.{cell}
 use Rattle.rules.specs.Sum.{sumTo, put}
 use Rattle.planner.proofs.before.column.Statement.{statement}
 use Rattle.planner.proofs.before.column.Tie as tie

@@ -1,7 +1,7 @@
 -- `before::unless` meets its contract.
 -- Assumes nothing.
 use borrow.Author.Needs.{needs}
-use Rattle.planner.proofs.SumLoops.{unless-here, unless-other}
+use Rattle.sums.proofs.SumLoops.{unless-here, unless-other}
 use Rattle.planner.proofs.before.unless.Statement.{statement}
 use Rattle.planner.proofs.before.unless.Tie as tie
 

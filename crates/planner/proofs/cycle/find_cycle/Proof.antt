@@ -3,8 +3,8 @@ use mathlib.Core.Path.{_≡_}
 use Prim.Native.Nat.{_-_, _≤_}
 use lib.ListN.{length, length-set}
 use Rattle.rules.specs.Plan.{at}
-use Rattle.planner.specs.Certificate.{cell}
-use Rattle.planner.specs.Path.{Way}
+use Rattle.stretches.specs.Cell.{cell}
+use Rattle.forest.specs.Path.{Way}
 use Rattle.planner.proofs.CycleLaws.{seek-begins, seek-task, seek-core-links, seek-core, seek-task-links, cycle-core, cycle-task, cycle-more, seek-short}
 use borrow.Author.Needs.{needs}
 use Rattle.planner.proofs.cycle.find_cycle.Statement.{statement}

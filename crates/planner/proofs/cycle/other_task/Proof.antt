@@ -1,7 +1,7 @@
 -- What was passed does not suit, and two links leave one that does. Assumes nothing.
 use Prim.Native.Nat.{_-_, _≤_}
-use Rattle.planner.specs.Certificate.{cell}
-use Rattle.planner.specs.Stripping.{links}
+use Rattle.stretches.specs.Cell.{cell}
+use Rattle.forest.specs.Stripping.{links}
 use Rattle.planner.proofs.WayLaws.{NoneBelow, none-begins, none-more, other-found, other-none}
 use borrow.Author.Needs.{needs}
 use Rattle.planner.proofs.cycle.other_task.Statement.{statement}

@@ -1,6 +1,6 @@
 -- The difference of the two sums, by the count of ones. Assumes nothing.
 use native.Mathlib.Omega.{arith}
-use Rattle.planner.proofs.GroupSum.{room-small, excess-some, excess-none}
+use Rattle.overload.proofs.GroupSum.{room-small, excess-some, excess-none}
 use borrow.Author.Needs.{needs}
 use Rattle.planner.proofs.excess.excess.Statement.{statement}
 use Rattle.planner.proofs.excess.excess.Tie as tie

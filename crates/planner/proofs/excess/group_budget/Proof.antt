@@ -6,7 +6,7 @@ use Rattle.rules.specs.Sum.{sumTo}
 use Rattle.rules.specs.Sets.{has}
 use Rattle.rules.specs.Plan.{at}
 use native.Mathlib.Omega.{arith}
-use Rattle.planner.proofs.GroupSum.{group-none, group-more, group-done}
+use Rattle.overload.proofs.GroupSum.{group-none, group-more, group-done}
 use borrow.Author.Needs.{needs}
 use Rattle.planner.proofs.excess.group_budget.Statement.{statement}
 use Rattle.planner.proofs.excess.group_budget.Tie as tie

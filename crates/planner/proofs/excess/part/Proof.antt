@@ -1,7 +1,7 @@
 -- A product with 0 or 1. Assumes nothing.
 use native.Mathlib.Omega.{arith}
 use mathlib.Core.Path.{refl}
-use Rattle.planner.proofs.GroupSum.{part-small}
+use Rattle.overload.proofs.GroupSum.{part-small}
 use Rattle.planner.proofs.excess.part.Statement.{statement}
 use Rattle.planner.proofs.excess.part.Tie as tie
 

@@ -1,8 +1,8 @@
 -- The loop counts the links as their sum is defined. Assumes nothing.
 use mathlib.Core.Path.{_≡_}
 use Prim.Native.Nat.{_≤_, _-_}
-use Rattle.planner.specs.Certificate.{cell}
-use Rattle.planner.specs.Stripping.{links}
+use Rattle.stretches.specs.Cell.{cell}
+use Rattle.forest.specs.Stripping.{links}
 use Rattle.planner.proofs.Links.{links-none, links-more, links-done}
 use borrow.Author.Needs.{needs}
 use Rattle.planner.proofs.peel.core_links.Statement.{statement}

@@ -1,7 +1,7 @@
 -- The invariant: what was passed is gone or has two links at least. Assumes nothing.
 use Prim.Native.Nat.{_≤_, _-_}
-use Rattle.planner.specs.Certificate.{cell}
-use Rattle.planner.specs.Stripping.{links}
+use Rattle.stretches.specs.Cell.{cell}
+use Rattle.forest.specs.Stripping.{links}
 use Rattle.planner.proofs.Loose.{FastBelow, fast-none, fast-more, loose-found, loose-none}
 use borrow.Author.Needs.{needs}
 use Rattle.planner.proofs.peel.loose_task.Statement.{statement}

@@ -1,8 +1,8 @@
 -- The invariant: what is gone was loose when it went. The measure counts what is still there. Assumes nothing.
 use Prim.Native.Nat.{_+_}
 use Rattle.rules.specs.Sum.{sumTo}
-use Rattle.planner.specs.Certificate.{cell}
-use Rattle.planner.specs.Stripping.{there, Stripping}
+use Rattle.stretches.specs.Cell.{cell}
+use Rattle.forest.specs.Stripping.{there, Stripping}
 use Rattle.planner.proofs.Loose.{peel-task, peel-core, task-less, core-less, all-fast}
 use borrow.Author.Needs.{needs}
 use Rattle.planner.proofs.peel.peel.Statement.{statement}

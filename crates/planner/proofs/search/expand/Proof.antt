@@ -3,7 +3,7 @@ use mathlib.Core.Path.{refl}
 use Prim.Native.Nat.{_-_, _≤_}
 use lib.ListN.{length}
 use Rattle.rules.specs.Plan.{at}
-use Rattle.planner.specs.Certificate.{cell}
+use Rattle.stretches.specs.Cell.{cell}
 use Rattle.planner.specs.Search.{Swept}
 use Rattle.planner.proofs.SearchLaws.{sweep-start, swept-then, sweep-end}
 use borrow.Author.Needs.{needs}

@@ -1,8 +1,8 @@
 -- The least of the places passed. Assumes nothing.
 use Prim.Native.Nat.{_+_, _-_, _≤_}
 use Rattle.rules.specs.Plan.{at}
-use Rattle.planner.specs.Certificate.{cell}
-use Rattle.planner.specs.Ring.{Least}
+use Rattle.stretches.specs.Cell.{cell}
+use Rattle.forest.specs.Ring.{Least}
 use Rattle.planner.proofs.RingLaws.{least-one, least-more, least-done, down-one}
 use borrow.Author.Needs.{needs}
 use Rattle.planner.proofs.shift.least.Statement.{statement}

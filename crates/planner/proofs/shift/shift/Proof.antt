@@ -3,8 +3,8 @@ use mathlib.Core.Path.{_≡_}
 use Prim.Native.Nat.{_-_, _≤_}
 use lib.ListN.{length}
 use Rattle.rules.specs.Plan.{at}
-use Rattle.planner.specs.Certificate.{cell}
-use Rattle.planner.specs.Ring.{Shifted}
+use Rattle.stretches.specs.Cell.{cell}
+use Rattle.forest.specs.Ring.{Shifted}
 use Rattle.planner.proofs.RingLaws.{shift-begins, shift-task, shift-core, shift-to, shift-differ, shift-enough, shift-fits, shift-again, shift-keeps, shift-fewer}
 use borrow.Author.Needs.{needs}
 use Rattle.planner.proofs.shift.shift.Statement.{statement}

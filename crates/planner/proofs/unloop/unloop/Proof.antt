@@ -1,11 +1,13 @@
 -- All sums are kept, and what is gone stays gone. The measure is the number of edges. Assumes nothing.
 use mathlib.Core.Path.{_≡_}
 use lib.ListN.{length}
-use Rattle.planner.specs.Certificate.{cell}
-use Rattle.planner.specs.Stripping.{Stripping}
-use Rattle.planner.specs.Ring.{Kept, edges}
-use Rattle.planner.proofs.Strip.{strip-none}
-use Rattle.planner.proofs.UnloopLaws.{kept-none, kept-more, kept-small, kept-strip, all-gone, seek-ready}
+use Rattle.stretches.specs.Cell.{cell}
+use Rattle.forest.specs.Stripping.{Stripping}
+use Rattle.forest.specs.Ring.{Kept, edges}
+use Rattle.forest.proofs.Strip.{strip-none}
+use Rattle.forest.proofs.Shifting.{kept-none, kept-more}
+use Rattle.planner.proofs.UnloopLaws.{kept-small, kept-strip, seek-ready}
+use Rattle.forest.proofs.Strip.{all-gone}
 use borrow.Author.Needs.{needs}
 use Rattle.planner.proofs.unloop.unloop.Statement.{statement}
 use Rattle.planner.proofs.unloop.unloop.Tie as tie

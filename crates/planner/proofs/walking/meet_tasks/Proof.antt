@@ -3,7 +3,7 @@
 use borrow.Author.Needs.{needs}
 use Prim.Native.Nat.{_≤_, _-_}
 use Rattle.rules.specs.Layout.{meet}
-use Rattle.planner.specs.Certificate.{cell}
+use Rattle.stretches.specs.Cell.{cell}
 use Rattle.planner.specs.Walking.{walkOf, Kept}
 use Rattle.planner.proofs.WalkLaws.{meet-begin, meet-more, meet-done, meet-asks}
 use Rattle.planner.proofs.walking.meet_tasks.Statement.{statement}

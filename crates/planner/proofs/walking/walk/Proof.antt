@@ -3,7 +3,7 @@
 use borrow.Author.Needs.{needs}
 use Prim.Native.Nat.{_≤_, _-_}
 use Rattle.rules.specs.Layout.{visits}
-use Rattle.planner.specs.Certificate.{cell}
+use Rattle.stretches.specs.Cell.{cell}
 use Rattle.planner.specs.Walking.{Kept}
 use Rattle.planner.proofs.WalkLaws.{walk-begin, walk-more, walk-done, walk-asks}
 use Rattle.planner.proofs.walking.walk.Statement.{statement}

@@ -1,0 +1,6 @@
+pub mod Apart
+pub mod Forest
+pub mod Shifting
+pub mod Strip
+pub mod Unlooped
+pub mod Ways

@@ -1,0 +1,4 @@
+pub mod Path
+pub mod Peeled
+pub mod Ring
+pub mod Stripping

@@ -1,0 +1,4 @@
+pub mod Collected
+pub mod Exists
+pub mod GroupSum
+pub mod Verdict

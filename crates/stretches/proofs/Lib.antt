@@ -1,0 +1,10 @@
+pub mod Agree
+pub mod Ahead
+pub mod Bounds
+pub mod Cells
+pub mod Cuts
+pub mod Lengths
+pub mod Numbers
+pub mod PieceLists
+pub mod Reaching
+pub mod Visits

@@ -1,0 +1,2 @@
+pub mod Cell
+pub mod Small

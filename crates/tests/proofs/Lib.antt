@@ -1,0 +1,3 @@
+pub mod FirstLaws
+pub mod PassedLaws
+pub mod TestLaws

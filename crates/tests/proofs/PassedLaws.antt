@@ -1,0 +1,133 @@
+-- What is known of a set that passed the tests 1 to 6.
+-- Assumes nothing.
+use mathlib.Core.Path.{_≡_, refl, sym, subst}
+use mathlib.Core.Bool.{Bool, true, false, cond, not, _||_, true≢false}
+use mathlib.Core.List.{List, [], _∷_}
+use Prim.Native.Nat.{ℕ, zero, suc, _+_, _*_, _/_, _%_, _^_, _≤_, _<_}
+use native.Mathlib.Nat.{mod-lt}
+use native.Mathlib.Omega.{arith}
+use borrow.Author.Tests.{eqb-false, eqb-true, ltb-false, not-false}
+use lib.Dec.{eqb, ltb}
+use lib.ListN.{length, getD}
+use lib.Pow.{split, pow-pos}
+use Rattle.rules.specs.Sum.{firstAt}
+use Rattle.rules.specs.Piece.{wholePieces}
+use Rattle.rules.specs.Plan.{at}
+use Rattle.rules.specs.Tests.{Tested, refused, passed, badFrame, badCores, badTasks, badMask, badBudget, shortTable, tested}
+use Rattle.rules.specs.declared.Answer.{Answer}
+use Rattle.rules.specs.declared.Answer.the-variants.{FrameLength, CoreCount, TaskCount, Mask, Budget, ShortTable}
+use Rattle.tests.specs.Given.{Given, DecideReady}
+use Rattle.tests.proofs.FirstLaws.{first-cons-hit, first-cons-miss}
+
+-- a test that was passed, and what comes after it
+passes : (b : Bool) (a : Answer) (t : Tested) → cond b (refused a) t ≡ passed → (b ≡ false) × (t ≡ passed)
+passes true a t e = absurd (never e)
+  where
+    never : refused a ≡ passed → ⊥
+    never e = let z : _≡_ {A = ℕ} 0 1 = cc in omega arith
+passes false a t e = (refl, e)
+
+or-left : (a b : Bool) → (a || b) ≡ false → a ≡ false
+or-left true b e = e
+or-left false b e = refl
+
+or-right : (a b : Bool) → (a || b) ≡ false → b ≡ false
+or-right true b e = absurd (true≢false e)
+or-right false b e = e
+
+head-fails : (p : ℕ → Bool) (a : ℕ) (s : List ℕ) (b : Bool) → p a ≡ b → suc (length s) ≤ firstAt p (a ∷ s) → (p a ≡ false) × (length s ≤ firstAt p s)
+head-fails p a s true e h = absurd (short (first-cons-hit p a s e) h)
+  where
+    short : {k n : ℕ} → k ≡ 0 → suc n ≤ k → ⊥
+    short e h = omega arith
+head-fails p a s false e h = (e, omega (arith, first-cons-miss p a s e))
+
+none-from : (p : ℕ → Bool) (s : List ℕ) → length s ≤ firstAt p s → (i : ℕ) → i < length s → p (getD s i 0) ≡ false
+none-from p [] h i l = absurd (nothing l)
+  where
+    nothing : {i : ℕ} → i < 0 → ⊥
+    nothing l = omega arith
+none-from p (a ∷ s) h zero l = head-fails p a s (p a) refl h .0
+none-from p (a ∷ s) h (suc i) l = none-from p s (head-fails p a s (p a) refl h .1) i (omega arith)
+
+-- where no place passes, the test fails at each
+pub none-at : (p : ℕ → Bool) (s : List ℕ) → ltb (firstAt p s) (length s) ≡ false → (i : ℕ) → i < length s → p (getD s i 0) ≡ false
+none-at p s e i l = none-from p s (ltb-false _ _ e) i l
+
+-- a mask that shifted right by m leaves nothing
+pub narrow-mask : (m mask : ℕ) → badMask m mask ≡ false → mask < 2 ^ m
+unfolding badMask
+narrow-mask m mask e = below (eqb-true _ _ (not-false _ (or-right (eqb mask 0) (not (eqb (mask / 2 ^ m) 0)) e)))
+  where
+    below : mask / 2 ^ m ≡ 0 → mask < 2 ^ m
+    below z = omega (arith, subst (λ (q : ℕ). q * 2 ^ m + mask % 2 ^ m ≡ mask) z (split mask m), mod-lt mask (pow-pos m))
+
+module _ (F m : ℕ) (budgets masks table : List ℕ) (e : tested F m budgets masks table ≡ passed) where
+  abbrev maskPlace : ℕ
+  maskPlace = firstAt (badMask m) masks
+
+  abbrev budgetPlace : ℕ
+  budgetPlace = firstAt (badBudget F) budgets
+
+  abbrev after5 : Tested
+  after5 = cond (shortTable (length budgets) m (wholePieces table)) (refused ShortTable) passed
+
+  abbrev after4 : Tested
+  after4 = cond (ltb budgetPlace (length budgets)) (refused (Budget budgetPlace)) after5
+
+  abbrev after3 : Tested
+  after3 = cond (ltb maskPlace (length masks)) (refused (Mask maskPlace)) after4
+
+  abbrev after2 : Tested
+  after2 = cond (badTasks budgets masks) (refused TaskCount) after3
+
+  abbrev after1 : Tested
+  after1 = cond (badCores m) (refused CoreCount) after2
+
+  first : (badFrame F ≡ false) × (after1 ≡ passed)
+  unfolding tested
+  first = passes (badFrame F) FrameLength after1 e
+
+  second : (badCores m ≡ false) × (after2 ≡ passed)
+  second = passes (badCores m) CoreCount after2 (first .1)
+
+  third : (badTasks budgets masks ≡ false) × (after3 ≡ passed)
+  third = passes (badTasks budgets masks) TaskCount after3 (second .1)
+
+  fourth : (ltb maskPlace (length masks) ≡ false) × (after4 ≡ passed)
+  fourth = passes (ltb maskPlace (length masks)) (Mask maskPlace) after4 (third .1)
+
+  fifth : (ltb budgetPlace (length budgets) ≡ false) × (after5 ≡ passed)
+  fifth = passes (ltb budgetPlace (length budgets)) (Budget budgetPlace) after5 (fourth .1)
+
+  sixth : shortTable (length budgets) m (wholePieces table) ≡ false
+  sixth = passes (shortTable (length budgets) m (wholePieces table)) ShortTable passed (fifth .1) .0
+
+  paired : length masks ≡ length budgets
+  unfolding badTasks
+  paired = sym (eqb-true _ _ (not-false _ (or-right (ltb 64 (length budgets)) (not (eqb (length budgets) (length masks))) (third .0))))
+
+  pub passed-set : Given F m budgets masks
+  unfolding badFrame badCores badTasks badBudget
+  passed-set =
+      record {
+        frame = ltb-false _ _ (or-right (eqb F 0) (ltb 1000000 F) (first .0));
+        cores = ltb-false _ _ (or-right (eqb m 0) (ltb 16 m) (second .0));
+        tasks = ltb-false _ _ (or-left (ltb 64 (length budgets)) (not (eqb (length budgets) (length masks))) (third .0));
+        paired = paired;
+        narrow = λ i l. narrow-mask m (at masks i) (none-at (badMask m) masks (fourth .0) i (subst (λ (k : ℕ). i < k) (sym paired) l));
+        small = λ i l. ltb-false F (at budgets i) (none-at (badBudget F) budgets (fifth .0) i l);
+      }
+
+  pub passed-ready : DecideReady F m budgets masks table
+  unfolding badFrame badCores shortTable
+  passed-ready =
+      record {
+        given = passed-set;
+        frame-some = some (eqb-false _ _ (or-left (eqb F 0) (ltb 1000000 F) (first .0)));
+        cores-some = some (eqb-false _ _ (or-left (eqb m 0) (ltb 16 m) (second .0)));
+        room = ltb-false _ _ sixth;
+      }
+    where
+      some : {k : ℕ} → (k ≡ 0 → ⊥) → 1 ≤ k
+      some ne = omega arith

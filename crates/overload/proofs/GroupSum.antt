@@ -2,9 +2,10 @@
 -- Assumes nothing.
 use mathlib.Core.Path.{_≡_, refl, sym, _∙_, ap, ap₂}
 use mathlib.Core.List.{List}
-use Prim.Native.Nat.{ℕ, _+_, _*_, _-_, _^_, _≤_, _<_}
-use native.Mathlib.Nat.{mul-le-mul-left, mul-le-mul-right, mul-comm, lt-of-le-of-lt, le-trans, le-of-eq, one-mul}
+use Prim.Native.Nat.{ℕ, min, _+_, _*_, _-_, _^_, _≤_, _<_}
+use native.Mathlib.Nat.{mul-le-mul-left, mul-le-mul-right, mul-comm, lt-of-le-of-lt, le-trans, le-of-eq, one-mul, zero-mul, le-antisymm}
 use native.Mathlib.Numerals.{add-one}
+use native.Mathlib.Decide.{decLe}
 use native.Mathlib.Omega.{arith}
 use lib.ListN.{length, getD}
 use lib.Count.{ones, ones-le}
@@ -12,8 +13,8 @@ use Rattle.rules.specs.Sum.{sumTo}
 use Rattle.rules.specs.Sets.{has}
 use Rattle.rules.specs.Plan.{at}
 use Rattle.rules.specs.Excess.{groupBudget, capacity}
-use Rattle.sums.proofs.Sum.{sum-cong, sum-scale}
-use Rattle.sums.proofs.Sets.{ones-has}
+use Rattle.sums.proofs.Sum.{sum-cong, sum-scale, sum-rest}
+use Rattle.sums.proofs.Sets.{has-above, ones-has}
 
 pub part-small : (a b : ℕ) → a < 2 → b < 2 ^ 32 → a * b < 2 ^ 32
 part-small a b h l = lt-of-le-of-lt (le-trans (mul-le-mul-right b (le-one h)) (le-of-eq (one-mul b))) l
@@ -30,13 +31,24 @@ pub group-more : (l : List ℕ) (g i v b w : ℕ) → v ≡ sumTo i (λ k. has g
 unfolding sumTo
 group-more l g i v b w e f h = rw (add-one i) (ap₂ _+_ e (h ∙ ap (λ (k : ℕ). k * getD l i 0) f))
 
-pub group-done : (l : List ℕ) (g i v : ℕ) → v ≡ sumTo i (λ k. has g k * at l k) → i ≤ length l → length l ≤ i
+-- a group below 2^w names no task from w on, so the sum up to there is the whole
+sum-named : (w n g : ℕ) (f : ℕ → ℕ) → g < 2 ^ w → sumTo (min n w) (λ k. has g k * f k) ≡ sumTo n (λ k. has g k * f k)
+sum-named w n g f h =
+    elim (decLe n w) [
+      | yes l ↦ ap (λ (c : ℕ). sumTo c (λ k. has g k * f k)) (low l)
+      | no s ↦ ap (λ (c : ℕ). sumTo c (λ k. has g k * f k)) (high s) ∙ sum-rest w n (λ k. has g k * f k) (omega arith) (λ k a. ap (λ (b : ℕ). b * f k) (has-above w h a) ∙ zero-mul (f k))
+    ]
+  where
+    low : n ≤ w → min n w ≡ n
+    low l = omega arith
+
+    high : (n ≤ w → ⊥) → min n w ≡ w
+    high s = omega arith
+
+pub group-done : (l : List ℕ) (g i v n : ℕ) → g < 2 ^ 64 → n ≡ min (length l) 64 → v ≡ sumTo i (λ k. has g k * at l k) → i ≤ n → n ≤ i
     → v ≡ groupBudget (length l) (at l) g
 unfolding groupBudget
-group-done l g i v e h k = e ∙ ap (λ (n : ℕ). sumTo n (λ k. has g k * at l k)) (meet h k)
-  where
-    meet : {a b : ℕ} → a ≤ b → b ≤ a → a ≡ b
-    meet h k = omega arith
+group-done l g i v n s c e h k = e ∙ ap (λ (n : ℕ). sumTo n (λ k. has g k * at l k)) (le-antisymm h k ∙ c) ∙ sum-named 64 (length l) g (at l) s
 
 -- the capacity of cores that all have one limit, by the count of ones
 pub capacity-ones : (F c : ℕ) → c < 2 ^ 16 → F * ones c ≡ capacity 16 (λ j. F) c

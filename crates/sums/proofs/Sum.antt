@@ -180,3 +180,16 @@ sum-at-most-one (suc n) v f h one =
 -- two different terms of a sum
 pub sum-two : (n j k : ℕ) (f : ℕ → ℕ) → j < n → k < n → (j ≡ k → ⊥) → f j + f k ≤ sumTo n f
 sum-two n j k f a b ne = omega (arith, sum-put n j 0 f a, sum-term n k (put j 0 f) b, put-other j 0 f k (λ e. ne (sym e)))
+
+-- terms of 0 from a on add nothing
+pub sum-rest : (a b : ℕ) (f : ℕ → ℕ) → a ≤ b → ((i : ℕ) → a ≤ i → f i ≡ 0) → sumTo a f ≡ sumTo b f
+unfolding sumTo
+sum-rest a zero f l h = ap (λ (c : ℕ). sumTo c f) (none l)
+  where
+    none : {c : ℕ} → c ≤ 0 → c ≡ 0
+    none l = omega arith
+sum-rest a (suc b) f l h =
+    elim (ℕ-discrete a (suc b)) [
+      | yes e ↦ ap (λ (c : ℕ). sumTo c f) e
+      | no ne ↦ omega (arith, sum-rest a b f (omega arith) h, h b (omega arith))
+    ]

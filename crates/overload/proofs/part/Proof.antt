@@ -1,9 +1,9 @@
 -- A product with 0 or 1. Assumes nothing.
 use native.Mathlib.Omega.{arith}
 use mathlib.Core.Path.{refl}
 use Rattle.overload.proofs.GroupSum.{part-small}
-use Rattle.planner.proofs.excess.part.Statement.{statement}
-use Rattle.planner.proofs.excess.part.Tie as tie
+use Rattle.overload.proofs.part.Statement.{statement}
+use Rattle.overload.proofs.part.Tie as tie
 
 mul-result : tie.Need-mul-result
 mul-result c = omega (arith, part-small (c .args .bit) (c .args .budget) (c .pre) (c .fits .budget .fits))

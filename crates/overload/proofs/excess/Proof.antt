@@ -1,9 +1,9 @@
 -- The difference of the two sums, by the count of ones. Assumes nothing.
 use native.Mathlib.Omega.{arith}
 use Rattle.overload.proofs.GroupSum.{room-small, excess-some, excess-none}
 use borrow.Author.Needs.{needs}
-use Rattle.planner.proofs.excess.excess.Statement.{statement}
-use Rattle.planner.proofs.excess.excess.Tie as tie
+use Rattle.overload.proofs.excess.Statement.{statement}
+use Rattle.overload.proofs.excess.Tie as tie
 
 group-budget-requires : tie.Need-group-budget-requires
 group-budget-requires c κs = search needs

@@ -1,21 +1,23 @@
 -- The loop keeps the sum of the budgets passed. Assumes nothing.
 use mathlib.Core.Path.{_≡_}
 use Prim.Native.Nat.{_*_, _-_, _≤_}
-use lib.ListN.{length}
+use native.Mathlib.Omega.{arith}
 use Rattle.rules.specs.Sum.{sumTo}
 use Rattle.rules.specs.Sets.{has}
 use Rattle.rules.specs.Plan.{at}
-use native.Mathlib.Omega.{arith}
 use Rattle.overload.proofs.GroupSum.{group-none, group-more, group-done}
 use borrow.Author.Needs.{needs}
-use Rattle.planner.proofs.excess.group_budget.Statement.{statement}
-use Rattle.planner.proofs.excess.group_budget.Tie as tie
+use Rattle.overload.proofs.group_budget.Statement.{statement}
+use Rattle.overload.proofs.group_budget.Tie as tie
 
 abbrev Inv-loop : tie.InvT-loop
-Inv-loop budgets group sum₀ i₀ sum i = (i ≤ length budgets) × (sum ≡ sumTo i (λ k. has group k * at budgets k)) × (sum ≤ i * 4294967295)
+Inv-loop budgets group count sum₀ i₀ sum i = (i ≤ count) × (sum ≡ sumTo i (λ k. has group k * at budgets k)) × (sum ≤ i * 4294967295)
 
 abbrev μ-loop : tie.MeasureT-loop
-μ-loop budgets group sum₀ i₀ sum i = length budgets - i
+μ-loop budgets group count sum₀ i₀ sum i = count - i
+
+named-requires : tie.Need-named-requires Inv-loop μ-loop
+named-requires c κs = search needs
 
 loop-holds : tie.Need-loop-holds Inv-loop μ-loop
 loop-holds c = search (group-none, needs)
@@ -44,7 +46,7 @@ loop-less c = search needs
 loop-again : tie.Need-loop-again Inv-loop μ-loop
 loop-again c = (
   search needs,
-  group-more (c .before .before .before .before .before .before .args .budgets .now) _ _ _ _ _ (c .before .before .before .before .loop .inv .1)
+  group-more (c .before .before .before .before .before .before .before .args .budgets .now) _ _ _ _ _ (c .before .before .before .before .loop .inv .1)
       (c .before .before .task-in .ensures .0) (c .part .ensures .0),
   omega (arith, c .part .ensures .1),
 )
@@ -58,6 +60,7 @@ group-budget-spec =
     (tie.spec
     Inv-loop
     μ-loop
+    named-requires
     loop-holds
     task-in-requires
     mul-part

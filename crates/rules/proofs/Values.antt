@@ -20,7 +20,7 @@ use Rattle.rules.specs.Finish.{beginOf}
 use Rattle.rules.specs.Obeys.{allowed}
 use Rattle.rules.specs.Layout.{ahead, begun, stretch, reachOne, reach, meetMark, meetOne, meet, visitMark, visit, waiting, unvisited, nextCore, visits, layout}
 use Rattle.rules.specs.Table.{row, cells, cellAt, cut, insertAll, piecesOn, coreTo, coresTo, tableOfCells, tableOf}
-use Rattle.rules.specs.Tests.{badFrame, badCores, badTasks, badMask, badBudget, shortTable, Tested, refused, passed, tested}
+use Rattle.rules.specs.Tests.{testedSet, badFrame, badCores, badTasks, badMask, badBudget, shortTable, Tested, refused, passed, tested}
 use Rattle.rules.specs.Check.{checkAnswer, movesAnswer}
 use Rattle.rules.specs.Jobs.{badJobCount, early, badJob, firstBadJob, firstAsking}
 use Rattle.rules.specs.Walked.{walkTested}
@@ -147,27 +147,27 @@ begin-value = refl
 
 -- tests in order: F 0 beside m 0; a bad mask of task 1 beside a bad budget of task 0; a table with one piece too few
 frame-first : tested 0 0 [] [] [] ≡ refused FrameLength
-unfolding tested badFrame
+unfolding tested testedSet badFrame
 frame-first = refl
 
 mask-before-budget : tested 9 2 (10 ∷ 1 ∷ []) (1 ∷ 0 ∷ []) [] ≡ refused (Mask 1)
-unfolding tested badFrame badCores badTasks badMask badBudget firstAt
+unfolding tested testedSet badFrame badCores badTasks badMask badBudget firstAt
 mask-before-budget = refl
 
 mask-past-cores : tested 9 2 (9 ∷ 1 ∷ []) (3 ∷ 4 ∷ []) [] ≡ refused (Mask 1)
-unfolding tested badFrame badCores badTasks badMask badBudget firstAt
+unfolding tested testedSet badFrame badCores badTasks badMask badBudget firstAt
 mask-past-cores = refl
 
 unlike-lists : tested 9 2 (9 ∷ []) [] [] ≡ refused TaskCount
-unfolding tested badFrame badCores badTasks badMask badBudget firstAt
+unfolding tested testedSet badFrame badCores badTasks badMask badBudget firstAt
 unlike-lists = refl
 
 short-value : tested 9 1 (9 ∷ []) (1 ∷ []) (0 ∷ 0 ∷ 0 ∷ 0 ∷ 0 ∷ []) ≡ refused ShortTable
-unfolding tested badFrame badCores badTasks badMask badBudget firstAt shortTable
+unfolding tested testedSet badFrame badCores badTasks badMask badBudget firstAt shortTable
 short-value = refl
 
 room-value : tested 9 1 (9 ∷ []) (1 ∷ []) (0 ∷ 0 ∷ 0 ∷ 0 ∷ 0 ∷ 0 ∷ 0 ∷ 0 ∷ []) ≡ passed
-unfolding tested badFrame badCores badTasks badMask badBudget firstAt shortTable
+unfolding tested testedSet badFrame badCores badTasks badMask badBudget firstAt shortTable
 room-value = refl
 
 -- a release below the one before it

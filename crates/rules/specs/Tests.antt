@@ -35,16 +35,25 @@ badBudget F budget = ltb F budget
 unfoldable pub shortTable : ℕ → ℕ → ℕ → Bool
 shortTable n m room = ltb (room + 1) (n + 2 * m)
 
--- what the tests 1 to 6 say: a refusal, or that the search for an allocation decides
+-- what tests say: a refusal, or passed
 pub data Tested : Type 0 where
   refused : Answer → Tested
   passed : Tested
 
-unfoldable pub tested : ℕ → ℕ → List ℕ → List ℕ → List ℕ → Tested
-tested F m budgets masks table =
+-- the tests 1 to 5, which look at the set alone, in their order
+unfoldable pub testedSet : ℕ → ℕ → List ℕ → List ℕ → Tested
+testedSet F m budgets masks =
     cond (badFrame F) (refused FrameLength)
     (cond (badCores m) (refused CoreCount)
     (cond (badTasks budgets masks) (refused TaskCount)
     (cond (ltb (firstAt (badMask m) masks) (length masks)) (refused (Mask (firstAt (badMask m) masks)))
-    (cond (ltb (firstAt (badBudget F) budgets) (length budgets)) (refused (Budget (firstAt (badBudget F) budgets)))
-    (cond (shortTable (length budgets) m (wholePieces table)) (refused ShortTable) passed)))))
+    (cond (ltb (firstAt (badBudget F) budgets) (length budgets)) (refused (Budget (firstAt (badBudget F) budgets))) passed))))
+
+-- 6 comes after them: `short` says whether the lent table is
+abbrev pub thenRoom : Bool → Tested → Tested
+thenRoom short (refused a) = refused a
+thenRoom short passed = cond short (refused ShortTable) passed
+
+-- the tests 1 to 6
+unfoldable pub tested : ℕ → ℕ → List ℕ → List ℕ → List ℕ → Tested
+tested F m budgets masks table = thenRoom (shortTable (length budgets) m (wholePieces table)) (testedSet F m budgets masks)

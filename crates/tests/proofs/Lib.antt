@@ -1,3 +1,4 @@
 pub mod FirstLaws
 pub mod PassedLaws
 pub mod TestLaws
+pub mod Unique

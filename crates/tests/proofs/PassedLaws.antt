@@ -13,18 +13,18 @@ use lib.Pow.{split, pow-pos}
 use Rattle.rules.specs.Sum.{firstAt}
 use Rattle.rules.specs.Piece.{wholePieces}
 use Rattle.rules.specs.Plan.{at}
-use Rattle.rules.specs.Tests.{Tested, refused, passed, badFrame, badCores, badTasks, badMask, badBudget, shortTable, tested}
+use Rattle.rules.specs.Tests.{Tested, refused, passed, badFrame, badCores, badTasks, badMask, badBudget, shortTable, testedSet, thenRoom, tested}
 use Rattle.rules.specs.declared.Answer.{Answer}
 use Rattle.rules.specs.declared.Answer.the-variants.{FrameLength, CoreCount, TaskCount, Mask, Budget, ShortTable}
-use Rattle.tests.specs.Given.{Given, DecideReady}
+use Rattle.tests.specs.Given.{Given, Admitted}
 use Rattle.tests.proofs.FirstLaws.{first-cons-hit, first-cons-miss}
+
+never : (a : Answer) → refused a ≡ passed → ⊥
+never a e = let z : _≡_ {A = ℕ} 0 1 = cc in omega arith
 
 -- a test that was passed, and what comes after it
 passes : (b : Bool) (a : Answer) (t : Tested) → cond b (refused a) t ≡ passed → (b ≡ false) × (t ≡ passed)
-passes true a t e = absurd (never e)
-  where
-    never : refused a ≡ passed → ⊥
-    never e = let z : _≡_ {A = ℕ} 0 1 = cc in omega arith
+passes true a t e = absurd (never a e)
 passes false a t e = (refl, e)
 
 or-left : (a b : Bool) → (a || b) ≡ false → a ≡ false
@@ -62,18 +62,15 @@ narrow-mask m mask e = below (eqb-true _ _ (not-false _ (or-right (eqb mask 0) (
     below : mask / 2 ^ m ≡ 0 → mask < 2 ^ m
     below z = omega (arith, subst (λ (q : ℕ). q * 2 ^ m + mask % 2 ^ m ≡ mask) z (split mask m), mod-lt mask (pow-pos m))
 
-module _ (F m : ℕ) (budgets masks table : List ℕ) (e : tested F m budgets masks table ≡ passed) where
+module _ (F m : ℕ) (budgets masks : List ℕ) (e : testedSet F m budgets masks ≡ passed) where
   abbrev maskPlace : ℕ
   maskPlace = firstAt (badMask m) masks
 
   abbrev budgetPlace : ℕ
   budgetPlace = firstAt (badBudget F) budgets
 
-  abbrev after5 : Tested
-  after5 = cond (shortTable (length budgets) m (wholePieces table)) (refused ShortTable) passed
-
   abbrev after4 : Tested
-  after4 = cond (ltb budgetPlace (length budgets)) (refused (Budget budgetPlace)) after5
+  after4 = cond (ltb budgetPlace (length budgets)) (refused (Budget budgetPlace)) passed
 
   abbrev after3 : Tested
   after3 = cond (ltb maskPlace (length masks)) (refused (Mask maskPlace)) after4
@@ -85,7 +82,7 @@ module _ (F m : ℕ) (budgets masks table : List ℕ) (e : tested F m budgets ma
   after1 = cond (badCores m) (refused CoreCount) after2
 
   first : (badFrame F ≡ false) × (after1 ≡ passed)
-  unfolding tested
+  unfolding testedSet
   first = passes (badFrame F) FrameLength after1 e
 
   second : (badCores m ≡ false) × (after2 ≡ passed)
@@ -97,37 +94,41 @@ module _ (F m : ℕ) (budgets masks table : List ℕ) (e : tested F m budgets ma
   fourth : (ltb maskPlace (length masks) ≡ false) × (after4 ≡ passed)
   fourth = passes (ltb maskPlace (length masks)) (Mask maskPlace) after4 (third .1)
 
-  fifth : (ltb budgetPlace (length budgets) ≡ false) × (after5 ≡ passed)
-  fifth = passes (ltb budgetPlace (length budgets)) (Budget budgetPlace) after5 (fourth .1)
-
-  sixth : shortTable (length budgets) m (wholePieces table) ≡ false
-  sixth = passes (shortTable (length budgets) m (wholePieces table)) ShortTable passed (fifth .1) .0
+  fifth : ltb budgetPlace (length budgets) ≡ false
+  fifth = passes (ltb budgetPlace (length budgets)) (Budget budgetPlace) passed (fourth .1) .0
 
   paired : length masks ≡ length budgets
   unfolding badTasks
   paired = sym (eqb-true _ _ (not-false _ (or-right (ltb 64 (length budgets)) (not (eqb (length budgets) (length masks))) (third .0))))
 
+  some : {k : ℕ} → (k ≡ 0 → ⊥) → 1 ≤ k
+  some ne = omega arith
+
   pub passed-set : Given F m budgets masks
   unfolding badFrame badCores badTasks badBudget
   passed-set =
       record {
+        frame-some = some (eqb-false _ _ (or-left (eqb F 0) (ltb 1000000 F) (first .0)));
         frame = ltb-false _ _ (or-right (eqb F 0) (ltb 1000000 F) (first .0));
+        cores-some = some (eqb-false _ _ (or-left (eqb m 0) (ltb 16 m) (second .0)));
         cores = ltb-false _ _ (or-right (eqb m 0) (ltb 16 m) (second .0));
         tasks = ltb-false _ _ (or-left (ltb 64 (length budgets)) (not (eqb (length budgets) (length masks))) (third .0));
         paired = paired;
         narrow = λ i l. narrow-mask m (at masks i) (none-at (badMask m) masks (fourth .0) i (subst (λ (k : ℕ). i < k) (sym paired) l));
-        small = λ i l. ltb-false F (at budgets i) (none-at (badBudget F) budgets (fifth .0) i l);
+        small = λ i l. ltb-false F (at budgets i) (none-at (badBudget F) budgets fifth i l);
       }
 
-  pub passed-ready : DecideReady F m budgets masks table
-  unfolding badFrame badCores shortTable
-  passed-ready =
-      record {
-        given = passed-set;
-        frame-some = some (eqb-false _ _ (or-left (eqb F 0) (ltb 1000000 F) (first .0)));
-        cores-some = some (eqb-false _ _ (or-left (eqb m 0) (ltb 16 m) (second .0)));
-        room = ltb-false _ _ sixth;
-      }
-    where
-      some : {k : ℕ} → (k ≡ 0 → ⊥) → 1 ≤ k
-      some ne = omega arith
+-- what the test 6 asks
+pub passed-sizes : (F m : ℕ) (budgets masks : List ℕ) → passed ≡ testedSet F m budgets masks → (m ≤ 16) × (length budgets ≤ 64)
+passed-sizes F m budgets masks e = let g = passed-set F m budgets masks (sym e) in (g .cores, g .tasks)
+
+-- where the tests 1 to 6 are passed, 1 to 5 are, and there is room
+room-passed : (b : Bool) (t : Tested) → thenRoom b t ≡ passed → (t ≡ passed) × (b ≡ false)
+room-passed b (refused a) e = absurd (never a e)
+room-passed b passed e = (refl, passes b ShortTable passed e .0)
+
+pub passed-ready : (F m : ℕ) (budgets masks table : List ℕ) → tested F m budgets masks table ≡ passed → Admitted F m budgets masks table
+unfolding tested shortTable
+passed-ready F m budgets masks table e =
+    let p = room-passed (shortTable (length budgets) m (wholePieces table)) (testedSet F m budgets masks) e in
+    record { given = passed-set F m budgets masks (p .0); room = ltb-false _ _ (p .1) }

@@ -8,7 +8,9 @@ use Rattle.rules.specs.Plan.{at}
 
 -- what the tests 1 to 5 leave: frame, cores and tasks within their sizes, masks below 2^m, budgets within the frame
 pub record Given (F m : ℕ) (budgets masks : List ℕ) : Type 0 where
+  pub frame-some : 1 ≤ F
   pub frame : F ≤ 1000000
+  pub cores-some : 1 ≤ m
   pub cores : m ≤ 16
   pub tasks : length budgets ≤ 64
   pub paired : length masks ≡ length budgets
@@ -16,8 +18,6 @@ pub record Given (F m : ℕ) (budgets masks : List ℕ) : Type 0 where
   pub small : (i : ℕ) → i < length budgets → at budgets i ≤ F
 
 -- what the tests 1 to 6 leave
-pub record DecideReady (F m : ℕ) (budgets masks table : List ℕ) : Type 0 where
+pub record Admitted (F m : ℕ) (budgets masks table : List ℕ) : Type 0 where
   pub given : Given F m budgets masks
-  pub frame-some : 1 ≤ F
-  pub cores-some : 1 ≤ m
   pub room : length budgets + 2 * m ≤ length table / 4 + 1

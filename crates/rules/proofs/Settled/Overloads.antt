@@ -9,7 +9,7 @@ use lib.ListN.{length}
 use Rattle.rules.specs.Sum.{sumTo, firstAt}
 use Rattle.rules.specs.Sets.{has, union}
 use Rattle.rules.specs.Excess.{groupBudget, capacity, groupCapacity, Exceeds, Smallest}
-use Rattle.rules.specs.Tests.{badFrame, badCores, badTasks, badMask, badBudget, tested}
+use Rattle.rules.specs.Tests.{testedSet, badFrame, badCores, badTasks, badMask, badBudget, tested}
 use Rattle.rules.specs.Plan.{at, limit}
 use Rattle.rules.specs.Settled.{Only, Holds, overloads, refuses}
 use Rattle.rules.specs.declared.Answer.the-variants.{Overloaded, Budget}
@@ -17,7 +17,7 @@ use Rattle.rules.proofs.Computed.{greatestTest, smallestTest, smallest-
 use Rattle.rules.proofs.Settled.Sets.{Alloc, Passes, overloaded-only, refused-only}
 
 pass2 : Passes 10 2 (8 ∷ 8 ∷ 3 ∷ []) (0b01 ∷ 0b01 ∷ 0b10 ∷ [])
-unfolding tested badFrame badCores badTasks badMask badBudget firstAt
+unfolding tested testedSet badFrame badCores badTasks badMask badBudget firstAt
 pass2 before roomy = rw roomy
 
 none2 : (x : ℕ → ℕ → ℕ) → Alloc 10 2 (8 ∷ 8 ∷ 3 ∷ []) (0b01 ∷ 0b01 ∷ 0b10 ∷ []) x → ⊥
@@ -39,7 +39,7 @@ unfolding sumTo has union groupBudget capacity groupCapacity Exceeds sameTest
 p2 = (overloaded-only 10 2 (8 ∷ 8 ∷ 3 ∷ []) (0b01 ∷ 0b01 ∷ 0b10 ∷ []) 0b011 0b01 pass2 none2 smallest2 (lit< tt) refl (same-computed 3 0b011 tt), smallest2, refl, refl)
 
 pass3 : Passes 10 2 (6 ∷ 6 ∷ 10 ∷ []) (0b01 ∷ 0b01 ∷ 0b10 ∷ [])
-unfolding tested badFrame badCores badTasks badMask badBudget firstAt
+unfolding tested testedSet badFrame badCores badTasks badMask badBudget firstAt
 pass3 before roomy = rw roomy
 
 none3 : (x : ℕ → ℕ → ℕ) → Alloc 10 2 (6 ∷ 6 ∷ 10 ∷ []) (0b01 ∷ 0b01 ∷ 0b10 ∷ []) x → ⊥
@@ -61,7 +61,7 @@ unfolding sumTo has union groupBudget capacity groupCapacity Exceeds sameTest
 p3 = (overloaded-only 10 2 (6 ∷ 6 ∷ 10 ∷ []) (0b01 ∷ 0b01 ∷ 0b10 ∷ []) 0b011 0b01 pass3 none3 smallest3 (lit< tt) refl (same-computed 3 0b011 tt), smallest3, refl, refl)
 
 pass6 : Passes 10 1 (5 ∷ 6 ∷ []) (0b1 ∷ 0b1 ∷ [])
-unfolding tested badFrame badCores badTasks badMask badBudget firstAt
+unfolding tested testedSet badFrame badCores badTasks badMask badBudget firstAt
 pass6 before roomy = rw roomy
 
 none6 : (x : ℕ → ℕ → ℕ) → Alloc 10 1 (5 ∷ 6 ∷ []) (0b1 ∷ 0b1 ∷ []) x → ⊥
@@ -81,5 +81,5 @@ unfolding sumTo has union groupBudget capacity groupCapacity Exceeds sameTest
 p6 = (overloaded-only 10 1 (5 ∷ 6 ∷ []) (0b1 ∷ 0b1 ∷ []) 0b11 0b1 pass6 none6 smallest6 (lit< tt) refl (same-computed 2 0b11 tt), smallest6, refl, refl)
 
 pub p4 : Holds (refuses 10 2 (11 ∷ []) (0b11 ∷ []) (Budget 0))
-unfolding tested badFrame badCores badTasks badMask badBudget firstAt
+unfolding tested testedSet badFrame badCores badTasks badMask badBudget firstAt
 p4 = refused-only 10 2 (11 ∷ []) (0b11 ∷ []) (Budget 0) (λ before. refl)

@@ -2,13 +2,10 @@
 use Prim.Native.Nat.{_-_, _≤_}
 use lib.ListN.{length}
 use Rattle.rules.specs.Tests.{badMask}
 use Rattle.tests.proofs.FirstLaws.{NoneBefore, first-begins, first-hit-by, first-more-by, first-end}
 use borrow.Author.Needs.{needs}
-use Rattle.planner.proofs.admit.first_bad_mask.Statement.{statement}
-use Rattle.planner.proofs.admit.first_bad_mask.Tie as tie
-use Rattle.planner.proofs.admit.first_bad_mask.Reads as reads
-use Rattle.planner.proofs.admit.first_bad_mask.Lts as lts
-use Rattle.planner.proofs.admit.bad_mask.Reads as bad-mask-reads
+use Rattle.tests.proofs.first_bad_mask.Statement.{statement}
+use Rattle.tests.proofs.first_bad_mask.Tie as tie
 
 abbrev Inv-loop : tie.InvT-loop
 Inv-loop masks cores i₀ i = (i ≤ length masks) × NoneBefore (badMask cores) masks i

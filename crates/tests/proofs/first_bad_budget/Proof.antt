@@ -2,12 +2,10 @@
 use Prim.Native.Nat.{_-_, _≤_}
 use lib.ListN.{length}
 use Rattle.rules.specs.Tests.{badBudget}
 use Rattle.tests.proofs.FirstLaws.{NoneBefore, first-begins, first-hit, first-more, first-end, budget-above, budget-within}
 use borrow.Author.Needs.{needs}
-use Rattle.planner.proofs.admit.first_bad_budget.Statement.{statement}
-use Rattle.planner.proofs.admit.first_bad_budget.Tie as tie
-use Rattle.planner.proofs.admit.first_bad_budget.Reads as reads
-use Rattle.planner.proofs.admit.first_bad_budget.Lts as lts
+use Rattle.tests.proofs.first_bad_budget.Statement.{statement}
+use Rattle.tests.proofs.first_bad_budget.Tie as tie
 
 abbrev Inv-loop : tie.InvT-loop
 Inv-loop budgets frame i₀ i = (i ≤ length budgets) × NoneBefore (badBudget frame) budgets i

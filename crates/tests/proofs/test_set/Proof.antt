@@ -1,12 +1,8 @@
 -- Each return by the tests that led to it. Assumes nothing.
 use Rattle.tests.proofs.TestLaws.{by-no-frame, by-long-frame, by-no-core, by-many-cores, by-many-tasks, by-unlike, by-tasks}
 use borrow.Author.Needs.{needs}
-use borrow.Author.Needs.{needs}
-use Rattle.planner.proofs.admit.test_set.Statement.{statement}
-use Rattle.planner.proofs.admit.test_set.Tie as tie
-use Rattle.planner.proofs.admit.test_set.Reads as reads
-use Rattle.planner.proofs.admit.test_set.Lts as lts
-use Rattle.planner.proofs.admit.test_tasks.Reads as test-tasks-reads
+use Rattle.tests.proofs.test_set.Statement.{statement}
+use Rattle.tests.proofs.test_set.Tie as tie
 
 returns : tie.Need-returns
 returns c = search (by-no-frame, needs)

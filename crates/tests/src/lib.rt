@@ -2,10 +2,10 @@
 use rules::Answer;
 ghost use mathlib.Core.Path.{_≡_};
 ghost use Prim.Native.Nat.{_+_, _/_, _≤_, _<_};
-ghost use lib.ListN.{length};
 ghost use Rattle.rules.specs.Sum.{firstAt};
-ghost use Rattle.rules.specs.Tests.{badMask, badBudget, tested};
+ghost use Rattle.rules.specs.Piece.{wholePieces};
+ghost use Rattle.rules.specs.Tests.{badMask, badBudget, shortTable, passed, testedSet, thenRoom, tested};
 ghost use Rattle.tests.specs.Verdict.{verdictOf, testedTasks};
 
 // Whether a mask is empty or has a bit at or above the number of cores.
 fn bad_mask(mask: u16, cores: u32) -> bool
@@ -47,16 +47,16 @@ fn first_bad_budget(budgets: &[u32], frame: u32) -> usize
     i
 }
 
-// What the tests say.
-pub(crate) enum Verdict {
+// What tests say.
+pub enum Verdict {
     Refused(Answer),
     Passed,
 }
 
-// The tests 4 to 6, of a set of at most 64 tasks.
-fn test_tasks(frame: u32, cores: u32, budgets: &[u32], masks: &[u16], table: &[u32]) -> Verdict
-    requires { ⌜ (cores ≤ 16) × (length (now budgets) ≤ 64) ⌝ }
-    ensures { λ r. ⌜ verdictOf r ≡ testedTasks frame cores (now (budgets .entry)) (now (masks .entry)) (now (table .entry)) ⌝ }
+// The tests 4 and 5.
+fn test_tasks(frame: u32, cores: u32, budgets: &[u32], masks: &[u16]) -> Verdict
+    requires { ⌜ cores ≤ 16 ⌝ }
+    ensures { λ r. ⌜ verdictOf r ≡ testedTasks frame cores (now (budgets .entry)) (now (masks .entry)) ⌝ }
 {
     let mask = first_bad_mask(masks, cores);
     if mask < masks.len() {
@@ -66,21 +66,12 @@ fn test_tasks(frame: u32, cores: u32, budgets: &[u32], masks: &[u16], table: &[u
     if budget < budgets.len() {
         return Verdict::Refused(Answer::Budget(budget));
     }
-    if table.len() / 4 + 1 < budgets.len() + 2 * (cores as usize) {
-        return Verdict::Refused(Answer::ShortTable);
-    }
     Verdict::Passed
 }
 
-// All tests.
-pub(crate) fn test_set(
-    frame: u32,
-    cores: u32,
-    budgets: &[u32],
-    masks: &[u16],
-    table: &[u32],
-) -> Verdict
-    ensures { λ r. ⌜ verdictOf r ≡ tested frame cores (now (budgets .entry)) (now (masks .entry)) (now (table .entry)) ⌝ }
+// The tests 1 to 5, which look at the set alone.
+pub fn test_set(frame: u32, cores: u32, budgets: &[u32], masks: &[u16]) -> Verdict
+    ensures { λ r. ⌜ verdictOf r ≡ testedSet frame cores (now (budgets .entry)) (now (masks .entry)) ⌝ }
 {
     if frame == 0 {
         return Verdict::Refused(Answer::FrameLength);
@@ -100,5 +91,27 @@ pub(crate) fn test_set(
     if budgets.len() != masks.len() {
         return Verdict::Refused(Answer::TaskCount);
     }
-    test_tasks(frame, cores, budgets, masks, table)
+    test_tasks(frame, cores, budgets, masks)
+}
+
+// The test 6: n + 2 × m − 1 pieces must find room.
+fn test_room(cores: u32, tasks: usize, table: &[u32]) -> Verdict
+    requires { ⌜ (cores ≤ 16) × (tasks ≤ 64) ⌝ }
+    ensures { λ r. ⌜ verdictOf r ≡ thenRoom (shortTable tasks cores (wholePieces (now (table .entry)))) passed ⌝ }
+{
+    if table.len() / 4 + 1 < tasks + 2 * (cores as usize) {
+        return Verdict::Refused(Answer::ShortTable);
+    }
+    Verdict::Passed
+}
+
+// The tests 1 to 6.
+pub fn test_plan(frame: u32, cores: u32, budgets: &[u32], masks: &[u16], table: &[u32]) -> Verdict
+    ensures { λ r. ⌜ verdictOf r ≡ tested frame cores (now (budgets .entry)) (now (masks .entry)) (now (table .entry)) ⌝ }
+{
+    let verdict = test_set(frame, cores, budgets, masks);
+    match verdict {
+        Verdict::Refused(answer) => Verdict::Refused(answer),
+        Verdict::Passed => test_room(cores, budgets.len(), table),
+    }
 }

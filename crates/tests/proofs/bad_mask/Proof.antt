@@ -1,11 +1,8 @@
 -- By the two tests. Assumes nothing.
 use Rattle.tests.proofs.FirstLaws.{mask-empty, mask-shifted}
 use borrow.Author.Needs.{needs}
-use borrow.Author.Needs.{needs}
-use Rattle.planner.proofs.admit.bad_mask.Statement.{statement}
-use Rattle.planner.proofs.admit.bad_mask.Tie as tie
-use Rattle.planner.proofs.admit.bad_mask.Reads as reads
-use Rattle.planner.proofs.admit.bad_mask.Lts as lts
+use Rattle.tests.proofs.bad_mask.Statement.{statement}
+use Rattle.tests.proofs.bad_mask.Tie as tie
 
 returns : tie.Need-returns
 returns c = mask-empty _ _ (c .if1 .taken)

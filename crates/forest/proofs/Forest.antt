@@ -289,6 +289,21 @@ pub sparse : {n m : ℕ} {x : ℕ → ℕ → ℕ} → Peeled n m x → (g h : �
     → 0 < sumTo n g + sumTo m h → edges n m x g h + 1 ≤ sumTo n g + sumTo m h
 sparse {n} {m} {x} p g h gs hs some = sparse-of n m x p g h gs hs some
 
+-- how many cells of the allocation have units
+pub used-at-most : {n m : ℕ} {x : ℕ → ℕ → ℕ} → Peeled n m x → 0 < m → sumTo n (λ i. sumTo m (λ j. positive (x i j))) + 1 ≤ n + m
+unfolding edges
+used-at-most {n} {m} {x} p some =
+    omega (
+      arith,
+      sparse p (λ i. 1) (λ j. 1) (λ i l. le-refl _) (λ j l. le-refl _) (omega (arith, sum-const m 1)),
+      sum-const n 1,
+      sum-const m 1,
+      sum-cong n {f = λ i. sumTo m (λ j. 1 * 1 * positive (x i j))} {g = λ i. sumTo m (λ j. positive (x i j))} (λ i l. sum-cong m (λ j b. once (positive (x i j)))),
+    )
+  where
+    once : (a : ℕ) → 1 * 1 * a ≡ a
+    once a = omega arith
+
 -- "the extra assignments .. are at most m − 1"
 pub extra-below-cores : {n m : ℕ} {x : ℕ → ℕ → ℕ} → Peeled n m x → 0 < m → extra n m x + 1 ≤ m
 unfolding extra coresOf edges

@@ -1,14 +1,13 @@
 -- The laws of a way whose vertices stand in two lists of eighteen places.
 -- Assumes nothing.
-use mathlib.Core.Path.{_≡_, refl, sym, _∙_, ap, subst}
+use mathlib.Core.Path.{_≡_}
 use mathlib.Core.List.{List}
-use Prim.Native.Nat.{ℕ, zero, suc, _+_, _-_, _*_, _≤_, _<_}
+use Prim.Native.Nat.{ℕ, _+_, _≤_, _<_}
 use native.Mathlib.Omega.{arith}
-use lib.ListN.{length, getD, set, length-set}
+use lib.ListN.{length, set}
 use lib.Seq.{getD-set-same, getD-set-other}
-use Rattle.rules.specs.Sets.{has}
 use Rattle.rules.specs.Plan.{at}
-use Rattle.forest.specs.Stripping.{links, Fast}
+use Rattle.forest.specs.Stripping.{links}
 use Rattle.forest.specs.Ring.{Ring}
 use Rattle.forest.specs.Path.{Way, Other, Place}
 use Rattle.planner.specs.Seeking.{Came, SeekReady}

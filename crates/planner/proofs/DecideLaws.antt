@@ -1,34 +1,50 @@
 -- The laws by which the parts of the planner make up its answer.
 -- Assumes nothing.
-use mathlib.Core.Path.{_≡_, refl, sym, _∙_, ap, subst}
+use mathlib.Core.Path.{_≡_, refl, sym, ap, subst}
 use mathlib.Core.List.{List, _++_}
-use Prim.Native.Nat.{ℕ, _+_, _*_, _/_, _≤_, _<_}
+use Prim.Native.Nat.{ℕ, _*_, _/_, _≤_, _<_}
 use native.Mathlib.Omega.{arith}
 use lib.ListN.{length, drop, replicate, length-replicate}
 use Rattle.rules.specs.Sum.{sumTo}
-use Rattle.rules.specs.Sets.{union}
 use Rattle.rules.specs.Piece.{numbersOf}
 use Rattle.rules.specs.Allocation.{Allocation}
 use Rattle.rules.specs.Table.{tableOf}
 use Rattle.rules.specs.Tests.{Tested, refused, passed, tested}
-use Rattle.rules.specs.Plan.{at, Refusal, PlannedBy, OverloadedBy, Decided, planned, overloaded, PlanAnswer, PlanAnswerAt}
+use Rattle.rules.specs.Plan.{at, Decided, planned, overloaded, PlanAnswer, PlanAnswerAt}
 use Rattle.rules.specs.declared.Answer.{Answer}
 use Rattle.rules.specs.declared.Answer.the-variants.{Accepted, Overloaded}
 use Rattle.rules.specs.declared.Planned.{Planned}
 use Rattle.stretches.specs.Cell.{cell}
 use Rattle.forest.specs.Peeled.{Peeled}
 use Rattle.forest.specs.Ring.{Kept}
-use Rattle.frames.specs.Ready.{Ready}
+use Rattle.planner.specs.Laid.{Fits, LayAnswer, laid, unfit}
+use Rattle.planner.specs.declared.stub.Laid.{Laid}
+use Rattle.planner.specs.declared.stub.Laid.the-variants.{Pieces, Unfit}
 use Rattle.planner.specs.Fill.{FillReady}
 use Rattle.planner.specs.Filled.{WholeBy, ShortBy}
-use Rattle.tests.specs.Given.{DecideReady}
+use Rattle.tests.specs.Given.{Admitted}
 use Rattle.planner.specs.Plan.{Settled}
 use Rattle.planner.proofs.FillLaws.{zeros}
-use Rattle.forest.proofs.Forest.{peeled-has-no-loop}
+use Rattle.forest.proofs.Forest.{used-at-most, peeled-has-no-loop}
 use Rattle.forest.proofs.Unlooped.{kept-allocation}
 use Rattle.tests.proofs.PassedLaws.{passed-ready}
 
-module _ (F m : ℕ) (budgets masks table : List ℕ) (d : DecideReady F m budgets masks table) where
+piecesOf : Laid → ℕ
+piecesOf (Pieces r) = r
+piecesOf Unfit = 0
+
+laid-where-fits : {F n m : ℕ} {units before after : List ℕ} {r : Laid} → LayAnswer F n m units before r after → Fits F n m (cell units) (length before / 4)
+    → (r ≡ Pieces (length (tableOf F n m (cell units)))) × (after ≡ numbersOf (tableOf F n m (cell units)) ++ drop (4 * length (tableOf F n m (cell units))) before)
+laid-where-fits (laid f a b) g = (a, b)
+laid-where-fits (unfit n a b) g = absurd (n g)
+
+never-unfit : {F n m : ℕ} {units before after : List ℕ} → LayAnswer F n m units before Unfit after → Fits F n m (cell units) (length before / 4) → ⊥
+never-unfit a g = let e = laid-where-fits a g .0 in clash e
+  where
+    clash : {k : ℕ} → Unfit ≡ Pieces k → ⊥
+    clash e = let z : _≡_ {A = ℕ} 0 1 = cc in omega arith
+
+module _ (F m : ℕ) (budgets masks table : List ℕ) (d : Admitted F m budgets masks table) where
   -- no units yet
   pub fill-ready : FillReady F m budgets masks (replicate 1024 0)
   fill-ready = record { given = d .given; long = length-replicate {A = ℕ} 1024 0; empty = zeros 1024 }
@@ -42,28 +58,31 @@ module _ (F m : ℕ) (budgets masks table : List ℕ) (d : DecideReady F m budge
       again : Allocation (length budgets) m (λ j. F) (at budgets) (at masks) (cell after)
       again = kept-allocation (w .allocation) k
 
-      pub layout-ready : Ready F (length budgets) m (cell after)
-      layout-ready =
+      -- the units fit, and the lent table has room: a forest has fewer links than vertices
+      layout-fits : Fits F (length budgets) m (cell after) (length table / 4)
+      layout-fits =
           record {
-            frame-some = d .frame-some;
+            frame-some = d .given .frame-some;
             frame-most = d .given .frame;
             tasks-most = d .given .tasks;
-            cores-some = d .cores-some;
+            cores-some = d .given .cores-some;
             cores-most = d .given .cores;
-            peeled = p;
             rows = λ i l. subst (λ (v : ℕ). v ≤ F) (sym (again .exact i l)) (d .given .small i l);
             cols = again .within;
+            room-for = omega (arith, used-at-most p (d .given .cores-some), d .room);
           }
 
-      pub settled-by : (r : ℕ) (now : List ℕ) → r ≡ length (tableOf F (length budgets) m (cell after))
-          → now ≡ numbersOf (tableOf F (length budgets) m (cell after)) ++ drop (4 * r) table → Settled F m budgets masks table r now (cell after)
-      settled-by r now e f =
-          record {
-            allocation = again;
-            loop-free = peeled-has-no-loop p;
-            pieces = e;
-            table = f ∙ ap (λ (k : ℕ). numbersOf (tableOf F (length budgets) m (cell after)) ++ drop (4 * k) table) e;
-          }
+      settled-at : (r : ℕ) (now : List ℕ) → r ≡ length (tableOf F (length budgets) m (cell after))
+          → now ≡ numbersOf (tableOf F (length budgets) m (cell after)) ++ drop (4 * length (tableOf F (length budgets) m (cell after))) table
+          → Settled F m budgets masks table r now (cell after)
+      settled-at r now e f = record { allocation = again; loop-free = peeled-has-no-loop p; pieces = e; table = f }
+
+      pub settled-by : (r : ℕ) (now : List ℕ) → LayAnswer F (length budgets) m after table (Pieces r) now → Settled F m budgets masks table r now (cell after)
+      unfolding piecesOf
+      settled-by r now a = let l = laid-where-fits a layout-fits in settled-at r now (ap piecesOf (l .0)) (l .1)
+
+      pub settled-never : (now : List ℕ) → LayAnswer F (length budgets) m after table Unfit now → Settled F m budgets masks table 0 now (cell after)
+      settled-never now a = absurd (never-unfit a layout-fits)
 
   pub decided-whole : (r : ℕ) (now : List ℕ) (x : ℕ → ℕ → ℕ) → Settled F m budgets masks table r now x
       → Decided F m budgets masks table (record { answer = Accepted; pieces = r }) now
@@ -81,7 +100,7 @@ module _ (F m : ℕ) (budgets masks before : List ℕ) where
       subst (λ (t : Tested). PlanAnswerAt t F m budgets masks before (record { answer = a; pieces = 0 }) before) e
       (record { answer = refl; pieces = refl; kept = refl })
 
-  pub answer-ready : passed ≡ tested F m budgets masks before → DecideReady F m budgets masks before
+  pub answer-ready : passed ≡ tested F m budgets masks before → Admitted F m budgets masks before
   answer-ready e = passed-ready F m budgets masks before (sym e)
 
   pub answer-decided : (r : Planned) (after : List ℕ) → passed ≡ tested F m budgets masks before → Decided F m budgets masks before r after

@@ -1,13 +1,13 @@
 -- The laws by which a loop counts the links of a vertex.
 -- Assumes nothing.
-use mathlib.Core.Path.{_≡_, refl, sym, _∙_, ap}
-use Prim.Native.Nat.{ℕ, zero, suc, _+_, _-_, _*_, _≤_, _<_}
+use mathlib.Core.Path.{_≡_, refl, _∙_, ap}
+use Prim.Native.Nat.{ℕ, _+_, _-_, _*_, _≤_, _<_}
 use native.Mathlib.Numerals.{add-one}
 use native.Mathlib.Omega.{arith}
 use Rattle.rules.specs.Sum.{sumTo, positive}
 use Rattle.rules.specs.Sets.{has}
 use Rattle.sums.proofs.Sum.{positive-of}
-use Rattle.forest.specs.Stripping.{there, links}
+use Rattle.forest.specs.Stripping.{links}
 
 pub link-some : (units gone : ℕ) → gone ≡ 0 → 0 < units → 1 ≡ (1 - gone) * positive units
 link-some units gone e p = rw (e, positive-of units p)

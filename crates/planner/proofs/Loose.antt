@@ -1,21 +1,20 @@
 -- The laws by which the lowest loose vertex is sought, and by which one vertex after another goes.
 -- Assumes nothing.
-use mathlib.Core.Path.{_≡_, refl, sym, _∙_, ap, subst}
+use mathlib.Core.Path.{_≡_, sym, _∙_, subst}
 use mathlib.Core.Bool.{Bool, true, false, true≢false}
-use Prim.Native.Nat.{ℕ, zero, suc, _+_, _-_, _*_, _^_, _≤_, _<_}
+use Prim.Native.Nat.{ℕ, _+_, _≤_, _<_}
 use native.Mathlib.Omega.{arith}
-use native.Mathlib.Decide.{ℕ-discrete}
 use borrow.Author.Count.{below-none, below-more}
 use borrow.Author.Tests.{leb-true, leb-false}
 use lib.Dec.{leb}
-use lib.Bits.{bitOr}
-use Rattle.rules.specs.Sum.{sumTo, put}
+use Rattle.rules.specs.Sum.{sumTo}
 use Rattle.rules.specs.Sets.{has}
-use Rattle.sums.proofs.Sum.{sum-cong, sum-put, sum-put-past, put-same, put-other}
-use Rattle.sums.proofs.Sets.{with-same, with-other}
+use native.Mathlib.Nat.{le-trans}
+use Rattle.sets.specs.Joined.{joined}
+use Rattle.sets.proofs.Members.{joined-in}
 use Rattle.forest.specs.Stripping.{there, links, Fast, Stripping}
 use Rattle.planner.specs.Loose.{FirstLoose}
-use Rattle.forest.proofs.Strip.{strip-task, strip-core}
+use Rattle.forest.proofs.Strip.{strip-task, strip-core, fewer-there}
 
 abbrev pub Stays : ℕ → ℕ → Bool → Type 0
 Stays gone count r = (r ≡ false → gone ≡ 0) × (r ≡ false → count ≤ 1) × (r ≡ true → gone ≡ 0 → 2 ≤ count)
@@ -57,22 +56,22 @@ module _ (gone : ℕ) (count : ℕ → ℕ) where
       no w q = omega arith
 
 module _ (n m : ℕ) (x : ℕ → ℕ → ℕ) (g h : ℕ) (s : Stripping n m x g h) where
-  pub peel-task : (r b : ℕ) → FirstLoose n g (links m h x) r → r < n → b ≡ bitOr g (2 ^ r) → Stripping n m x b h
-  peel-task r b f l e = subst (λ (k : ℕ). Stripping n m x k h) (sym e) (strip-task n m x g h r s l (f .there-still l) (f .loose l))
+  pub peel-task : (w r b : ℕ) → FirstLoose n g (links m h x) r → r < n → n ≤ w → b ≡ joined w g r → Stripping n m x b h
+  peel-task w r b f l a e = subst (λ (k : ℕ). Stripping n m x k h) (sym (e ∙ joined-in w g r (le-trans l a))) (strip-task n m x g h r s l (f .there-still l) (f .loose l))
 
-  pub peel-core : (r b : ℕ) → FirstLoose m h (links n g (λ j i. x i j)) r → r < m → b ≡ bitOr h (2 ^ r) → Stripping n m x g b
-  peel-core r b f l e = subst (λ (k : ℕ). Stripping n m x g k) (sym e) (strip-core n m x g h r s l (f .there-still l) (f .loose l))
+  pub peel-core : (w r b : ℕ) → FirstLoose m h (links n g (λ j i. x i j)) r → r < m → m ≤ w → b ≡ joined w h r → Stripping n m x g b
+  peel-core w r b f l a e = subst (λ (k : ℕ). Stripping n m x g k) (sym (e ∙ joined-in w h r (le-trans l a))) (strip-core n m x g h r s l (f .there-still l) (f .loose l))
 
-pub task-less : (n m g h r b : ℕ) (count : ℕ → ℕ) → FirstLoose n g count r → r < n → b ≡ bitOr g (2 ^ r)
+pub task-less : (w n m g h r b : ℕ) (count : ℕ → ℕ) → FirstLoose n g count r → r < n → n ≤ w → b ≡ joined w g r
     → sumTo n (there b) + sumTo m (there h) < sumTo n (there g) + sumTo m (there h)
-task-less n m g h r b count f l e = rw e (lift _ (fewer-there n g r l (f .there-still l)))
+task-less w n m g h r b count f l a e = rw (e ∙ joined-in w g r (le-trans l a)) (lift _ (fewer-there n g r l (f .there-still l)))
   where
     lift : {a b : ℕ} (c : ℕ) → a < b → a + c < b + c
     lift c p = omega arith
 
-pub core-less : (n m g h r b : ℕ) (count : ℕ → ℕ) → FirstLoose m h count r → r < m → b ≡ bitOr h (2 ^ r)
+pub core-less : (w n m g h r b : ℕ) (count : ℕ → ℕ) → FirstLoose m h count r → r < m → m ≤ w → b ≡ joined w h r
     → sumTo n (there g) + sumTo m (there b) < sumTo n (there g) + sumTo m (there h)
-core-less n m g h r b count f l e = rw e (lift _ (fewer-there m h r l (f .there-still l)))
+core-less w n m g h r b count f l a e = rw (e ∙ joined-in w h r (le-trans l a)) (lift _ (fewer-there m h r l (f .there-still l)))
   where
     lift : {a b : ℕ} (c : ℕ) → a < b → c + a < c + b
     lift c p = omega arith

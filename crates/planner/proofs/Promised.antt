@@ -1,19 +1,18 @@
 -- Demand 2 as a customer reads it: what an answer that plan's contract allows says. Each statement starts from the contract alone.
 -- Assumes nothing.
-use mathlib.Core.Path.{_≡_, refl, sym, _∙_, ap, subst}
-use mathlib.Core.Bool.{Bool, true, false, cond, _&&_}
+use mathlib.Core.Path.{_≡_, refl, sym, _∙_, subst}
+use mathlib.Core.Bool.{true}
 use mathlib.Core.Logic.{_⊎_, inl, inr, ⊎-elim}
-use mathlib.Core.List.{List, [], _∷_, _++_}
-use Prim.Native.Nat.{ℕ, _+_, _-_, _*_, _%_, _^_, _≤_, _<_}
+use mathlib.Core.List.{List}
+use Prim.Native.Nat.{ℕ, _+_, _*_, _%_, _≤_, _<_}
 use native.Mathlib.Omega.{arith}
 use borrow.Author.Tests.{lt-ltb, eq-eqb}
-use lib.Dec.{eqb, ltb}
-use lib.ListN.{length, drop}
-use Rattle.rules.specs.Sum.{sumTo}
+use lib.Dec.{eqb}
+use lib.ListN.{length}
 use Rattle.rules.specs.Sets.{has, union}
 use Rattle.rules.specs.Extra.{extra}
 use Rattle.rules.specs.Piece.{Piece, numbersOf, piecesOf}
-use Rattle.rules.specs.FrameTable.{every, everyTwo, taskApart, framePieces, frameTable}
+use Rattle.rules.specs.FrameTable.{everyTwo, taskApart, framePieces, frameTable}
 use Rattle.rules.specs.Service.{units}
 use Rattle.rules.specs.Allocation.{Allocation}
 use Rattle.rules.specs.Excess.{Exceeds, Overload, Smallest}
@@ -26,20 +25,19 @@ use Rattle.rules.specs.declared.Answer.{Answer}
 use Rattle.rules.specs.declared.Answer.the-variants.{Accepted, Overloaded}
 use Rattle.rules.specs.declared.Planned.{Planned}
 use Rattle.sums.proofs.Sets.{has-lt}
-use Rattle.tests.specs.Given.{Given}
-use Rattle.tests.specs.Given.{DecideReady}
+use Rattle.tests.specs.Given.{Admitted}
 use Rattle.frames.specs.Ready.{Ready}
 use Rattle.forest.proofs.Apart.{loop-free-comes-apart}
 use Rattle.forest.proofs.Forest.{extra-below-cores}
-use Rattle.stretches.proofs.PieceLists.{Every, every-map, every-true}
+use Rattle.stretches.proofs.PieceLists.{every-map, every-true}
 use Rattle.frames.proofs.FrameTables.{Allowed, table-is-frame-table, pieces-at-most, budgets-exact, cores-allowed, never-two-at-once}
 use Rattle.overload.proofs.Exists.{allocation-or-overload, overloaded-exactly-without-allocation}
-use Rattle.overload.proofs.Verdict.{allocation-fits-every-group, smallest-group-is-unique}
+use Rattle.overload.proofs.Verdict.{smallest-group-is-unique}
 use Rattle.forest.proofs.Unlooped.{allocation-without-loops}
 use Rattle.stretches.proofs.Numbers.{pieces-of-numbers}
 use Rattle.frames.proofs.NoTable.{both-right, table-is-allocation}
 use Rattle.overload.proofs.Collected.{smallest-holds-no-zero}
-use Rattle.tests.proofs.PassedLaws.{passed-set, passed-ready}
+use Rattle.tests.proofs.PassedLaws.{passed-ready}
 
 -- an allocation within the sizes, without a loop: the table that document 01 fixes for it obeys the rules
 module _ (F n m : ℕ) (budget mask : ℕ → ℕ) (x : ℕ → ℕ → ℕ) (some : 1 ≤ F) (most : F ≤ 1000000) (tasks : n ≤ 64) (cores : 1 ≤ m) (few : m ≤ 16)
@@ -108,16 +106,16 @@ module _ (F n m : ℕ) (budget mask : ℕ → ℕ) (some : 1 ≤ F) (most : F �
 -- what an accepted answer says
 module _ (F m : ℕ) (budgets masks before : List ℕ) (pass : tested F m budgets masks before ≡ passed) (r : Planned) (after : List ℕ) (x : ℕ → ℕ → ℕ)
     (p : PlannedBy F m budgets masks before r after x) where
-  d : DecideReady F m budgets masks before
+  d : Admitted F m budgets masks before
   d = passed-ready F m budgets masks before pass
 
   accepted-ready : Ready F (length budgets) m x
   accepted-ready =
-      ready F (length budgets) m (at budgets) (at masks) x (d .frame-some) (d .given .frame) (d .given .tasks) (d .cores-some) (d .given .cores) (d .given .small) (p .allocation) (p .loop-free)
+      ready F (length budgets) m (at budgets) (at masks) x (d .given .frame-some) (d .given .frame) (d .given .tasks) (d .given .cores-some) (d .given .cores) (d .given .small) (p .allocation) (p .loop-free)
 
   pub accepted-table-obeys : Obeys F (length budgets) m (at budgets) (at masks) (tableOf F (length budgets) m x)
   accepted-table-obeys =
-      table-obeys F (length budgets) m (at budgets) (at masks) x (d .frame-some) (d .given .frame) (d .given .tasks) (d .cores-some) (d .given .cores) (d .given .small) (p .allocation) (p .loop-free)
+      table-obeys F (length budgets) m (at budgets) (at masks) x (d .given .frame-some) (d .given .frame) (d .given .tasks) (d .given .cores-some) (d .given .cores) (d .given .small) (p .allocation) (p .loop-free)
 
   pub accepted-is-frame-table : frameTable F m (numbersOf (tableOf F (length budgets) m x)) ≡ true
   accepted-is-frame-table = table-is-frame-table F (length budgets) m x accepted-ready
@@ -127,7 +125,7 @@ module _ (F m : ℕ) (budgets masks before : List ℕ) (pass : tested F m budget
 
   -- "Then the extra assignments .. are at most m − 1"
   pub accepted-extra-below-cores : extra (length budgets) m x + 1 ≤ m
-  accepted-extra-below-cores = extra-below-cores (accepted-ready .peeled) (d .cores-some)
+  accepted-extra-below-cores = extra-below-cores (accepted-ready .peeled) (d .given .cores-some)
 
   -- "n + 2 × m − 1"
   pub accepted-pieces-at-most : r .pieces + 1 ≤ length budgets + 2 * m

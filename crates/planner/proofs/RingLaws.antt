@@ -1,19 +1,13 @@
 -- The laws by which the code seeks the least amount and shifts it round the cycle.
 -- Assumes nothing.
-use mathlib.Core.Path.{_≡_, refl, sym, _∙_, ap, subst}
-use mathlib.Core.Bool.{Bool, true, false, cond}
-use mathlib.Core.List.{List}
-use Prim.Native.Nat.{ℕ, zero, suc, _+_, _-_, _*_, _^_, _≤_, _<_}
+use mathlib.Core.Path.{_≡_, sym, _∙_, subst}
+use Prim.Native.Nat.{ℕ, _+_, _-_, _^_, _≤_, _<_}
 use native.Mathlib.Decide.{ℕ-discrete}
-use native.Mathlib.Numerals.{add-one}
 use native.Mathlib.Omega.{arith}
 use borrow.Author.Tests.{eq-eqb, ne-eqb}
-use lib.ListN.{length}
-use Rattle.rules.specs.Sum.{sumTo, put}
 use Rattle.sums.proofs.Sum.{sum-two}
-use Rattle.stretches.specs.Cell.{cell}
-use Rattle.forest.specs.Ring.{Moved, prior, Ring, Least, Shifted, Kept, edges}
-use Rattle.planner.specs.Shifts.{Named, ShiftReady}
+use Rattle.forest.specs.Ring.{Moved, prior, Least, Shifted, Kept, edges}
+use Rattle.planner.specs.Shifts.{ShiftReady}
 use Rattle.forest.proofs.Shifting.{shifted-none, shifted-more, shifted-kept, shifted-edges}
 
 module _ (x : ℕ → ℕ → ℕ) (task core : ℕ → ℕ) (lo : ℕ) where

@@ -7,10 +7,10 @@ use native.Mathlib.Decide.{ℕ-discrete}
 use native.Mathlib.Omega.{arith}
 use lib.ListN.{length, getD, set, length-set}
 use lib.Seq.{getD-set-same, getD-set-other, set-set, set-getD}
-use Rattle.rules.specs.Sum.{sumTo, put}
+use Rattle.rules.specs.Sum.{sumTo}
 use Rattle.rules.specs.Sets.{has}
 use Rattle.rules.specs.Plan.{at}
-use Rattle.sums.proofs.Sum.{sum-but-one, put-same, put-other, sum-put, sum-cong, sum-term}
+use Rattle.sums.proofs.Sum.{sum-but-one, sum-cong, sum-term}
 use Rattle.stretches.specs.Cell.{cell}
 use Rattle.planner.specs.Fill.{Filling, raise, lower}
 

@@ -1,24 +1,17 @@
 -- The laws by which cycles go one after another until the graph comes apart.
 -- Assumes nothing.
-use mathlib.Core.Path.{_≡_, refl, sym, _∙_, ap, subst}
-use mathlib.Core.List.{List}
-use Prim.Native.Nat.{ℕ, zero, suc, _+_, _-_, _*_, _≤_, _<_}
+use mathlib.Core.Path.{_≡_, sym, _∙_, subst}
+use Prim.Native.Nat.{ℕ, _+_, _≤_, _<_}
 use native.Mathlib.Omega.{arith}
-use native.Mathlib.Decide.{ℕ-discrete}
 use borrow.Author.Count.{below-none, below-more}
-use lib.ListN.{length}
-use Rattle.rules.specs.Sum.{sumTo, positive}
+use Rattle.rules.specs.Sum.{sumTo}
 use Rattle.rules.specs.Sets.{has}
-use Rattle.sums.proofs.Sum.{sum-zero}
-use Rattle.sums.proofs.Sets.{has-lt, has-zero}
-use Rattle.stretches.specs.Cell.{cell}
-use Rattle.forest.specs.Peeled.{Peeled}
-use Rattle.forest.specs.Stripping.{there, links, Stripping, Fast}
-use Rattle.forest.specs.Ring.{Ring, Least, Kept, edges}
+use Rattle.forest.specs.Stripping.{Stripping, Fast}
+use Rattle.forest.specs.Ring.{Ring, Least, Kept}
 use Rattle.planner.specs.Shifts.{Named, ShiftReady}
 use Rattle.forest.specs.Path.{FirstThere}
 use Rattle.planner.specs.Seeking.{SeekReady}
-use Rattle.forest.proofs.Strip.{strip-fewer, strip-whole}
+use Rattle.forest.proofs.Strip.{strip-fewer}
 
 module _ (gone : ℕ) where
   abbrev pub GoneBelow : ℕ → Type 0

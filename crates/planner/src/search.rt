@@ -10,10 +10,10 @@ ghost use Rattle.rules.specs.Sets.{has};
 ghost use Rattle.rules.specs.Plan.{at};
 ghost use Rattle.planner.specs.Search.{Reached, Swept, Sized, Sight, nothing};
 ghost use Rattle.stretches.specs.Cell.{cell};
-use crate::sets::core_in;
-use crate::sets::task_in;
-use crate::sets::with_core;
-use crate::sets::with_task;
+use sets::core_in;
+use sets::task_in;
+use sets::with_core;
+use sets::with_task;
 
 // What was found: so many cores queued, which tasks, which cores.
 pub(crate) struct Seen {

@@ -2,7 +2,7 @@
 use super::cycle::find_cycle;
 use super::peel::Gone;
 use super::peel::peel;
-use super::sets::task_in;
+use sets::task_in;
 use super::shift::least;
 use super::shift::shift;
 ghost use mathlib.Core.Path.{_≡_};

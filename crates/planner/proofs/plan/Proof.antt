@@ -1,16 +1,11 @@
 -- The tests decide, or the search does. Assumes nothing.
 use Rattle.planner.proofs.DecideLaws.{answer-refused, answer-ready, answer-decided}
 use borrow.Author.Needs.{needs}
-use borrow.Author.Needs.{needs}
 use Rattle.planner.proofs.plan.Statement.{statement}
 use Rattle.planner.proofs.plan.Tie as tie
-use Rattle.planner.proofs.plan.Reads as reads
-use Rattle.planner.proofs.plan.Lts as lts
-use Rattle.planner.proofs.admit.test_set.Reads as test-set-reads
-use Rattle.planner.proofs.decide.decide.Reads as decide-reads
 
-test-set-requires : tie.Need-test-set-requires
-test-set-requires c κs = search needs
+test-plan-requires : tie.Need-test-plan-requires
+test-plan-requires c κs = search needs
 
 enum-known-verdict : tie.Need-enum-known-verdict
 enum-known-verdict c = search needs
@@ -19,13 +14,13 @@ enum-told : tie.Need-enum-told
 enum-told c = search needs
 
 decide-requires : tie.Need-decide-requires
-decide-requires c κs = answer-ready _ _ _ _ _ (rw (c .before .enum-told .given .1) at (c .before .before .before .test-set .ensures))
+decide-requires c κs = answer-ready _ _ _ _ _ (rw (c .before .enum-told .given .1) at (c .before .before .before .test-plan .ensures))
 
 same-length : tie.Need-same-length
 same-length c = search needs
 
 returns : tie.Need-returns
-returns c = answer-refused _ _ _ _ _ _ (rw (c .before .verdict .given .1) at (c .before .before .before .test-set .ensures))
+returns c = answer-refused _ _ _ _ _ _ (rw (c .before .verdict .given .1) at (c .before .before .before .test-plan .ensures))
 
 same-length-2 : tie.Need-same-length-2
 same-length-2 c = search needs
@@ -33,13 +28,13 @@ same-length-2 c = search needs
 returns-2 : tie.Need-returns-2
 returns-2 c =
     let d = c .before .before in
-    answer-decided _ _ _ _ _ _ _ (rw (d .before .before .enum-told .given .1) at (d .before .before .before .before .test-set .ensures)) (d .decide .ensures)
+    answer-decided _ _ _ _ _ _ _ (rw (d .before .before .enum-told .given .1) at (d .before .before .before .before .test-plan .ensures)) (d .decide .ensures)
 
 pub plan-spec : {M : Type 1} → statement M
 plan-spec =
     tie.close
     (tie.spec
-    test-set-requires
+    test-plan-requires
     enum-known-verdict
     enum-told
     decide-requires

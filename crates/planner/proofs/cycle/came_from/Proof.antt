@@ -2,11 +2,8 @@
 use mathlib.Core.Path.{refl}
 use Rattle.planner.proofs.WayLaws.{came-none, came-last}
 use borrow.Author.Needs.{needs}
-use borrow.Author.Needs.{needs}
 use Rattle.planner.proofs.cycle.came_from.Statement.{statement}
 use Rattle.planner.proofs.cycle.came_from.Tie as tie
-use Rattle.planner.proofs.cycle.came_from.Reads as reads
-use Rattle.planner.proofs.cycle.came_from.Lts as lts
 
 returns : tie.Need-returns
 returns c = came-none _ _ _ (c .if1 .taken)

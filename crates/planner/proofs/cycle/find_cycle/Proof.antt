@@ -9,12 +9,6 @@ use Rattle.planner.proofs.CycleLaws.{seek-begins, seek-task, seek-core-
 use borrow.Author.Needs.{needs}
 use Rattle.planner.proofs.cycle.find_cycle.Statement.{statement}
 use Rattle.planner.proofs.cycle.find_cycle.Tie as tie
-use Rattle.planner.proofs.cycle.find_cycle.Reads as reads
-use Rattle.planner.proofs.cycle.find_cycle.Lts as lts
-use Rattle.planner.proofs.cycle.came_from.Reads as came-from-reads
-use Rattle.planner.proofs.cycle.other_core.Reads as other-core-reads
-use Rattle.planner.proofs.cycle.other_task.Reads as other-task-reads
-use Rattle.planner.proofs.cycle.place_of.Reads as place-of-reads
 
 abbrev Inv-loop : tie.InvT-loop
 Inv-loop units n m start tasks₀ cores₀ tasks-gone cores-gone k₀ tasks cores k = (k ≤ 16) × (length tasks ≡ 18) × (length cores ≡ 18) × Way n m (cell units) tasks-gone cores-gone (at tasks) (at cores) k

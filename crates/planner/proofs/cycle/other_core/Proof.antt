@@ -6,10 +6,6 @@ use Rattle.planner.proofs.WayLaws.{NoneBelow, none-begins, none-more, o
 use borrow.Author.Needs.{needs}
 use Rattle.planner.proofs.cycle.other_core.Statement.{statement}
 use Rattle.planner.proofs.cycle.other_core.Tie as tie
-use Rattle.planner.proofs.cycle.other_core.Reads as reads
-use Rattle.planner.proofs.cycle.other_core.Lts as lts
-use Rattle.planner.proofs.cycle.suits.Reads as suits-reads
-use Rattle.planner.proofs.sets.core_in.Reads as core-in-reads
 
 abbrev Inv-loop : tie.InvT-loop
 Inv-loop units cores gone task from j₀ j = (j ≤ cores) × NoneBelow (cell units task) gone from j

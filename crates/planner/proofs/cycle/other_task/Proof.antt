@@ -6,10 +6,6 @@ use Rattle.planner.proofs.WayLaws.{NoneBelow, none-begins, none-more, o
 use borrow.Author.Needs.{needs}
 use Rattle.planner.proofs.cycle.other_task.Statement.{statement}
 use Rattle.planner.proofs.cycle.other_task.Tie as tie
-use Rattle.planner.proofs.cycle.other_task.Reads as reads
-use Rattle.planner.proofs.cycle.other_task.Lts as lts
-use Rattle.planner.proofs.cycle.suits.Reads as suits-reads
-use Rattle.planner.proofs.sets.task_in.Reads as task-in-reads
 
 abbrev Inv-loop : tie.InvT-loop
 Inv-loop units tasks gone core from i₀ i = (i ≤ tasks) × NoneBelow (λ i. cell units i core) gone from i

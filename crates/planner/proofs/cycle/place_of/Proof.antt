@@ -5,8 +5,6 @@ use Rattle.planner.proofs.WayLaws.{NotBelow, not-begins, not-more, plac
 use borrow.Author.Needs.{needs}
 use Rattle.planner.proofs.cycle.place_of.Statement.{statement}
 use Rattle.planner.proofs.cycle.place_of.Tie as tie
-use Rattle.planner.proofs.cycle.place_of.Reads as reads
-use Rattle.planner.proofs.cycle.place_of.Lts as lts
 
 abbrev Inv-loop : tie.InvT-loop
 Inv-loop list count value i₀ i = (i ≤ count) × NotBelow (at list) 0 value i

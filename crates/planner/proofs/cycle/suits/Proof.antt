@@ -3,8 +3,6 @@ use Rattle.planner.proofs.WayLaws.{suits-back, suits-there, suits-gone}
 use borrow.Author.Needs.{needs}
 use Rattle.planner.proofs.cycle.suits.Statement.{statement}
 use Rattle.planner.proofs.cycle.suits.Tie as tie
-use Rattle.planner.proofs.cycle.suits.Reads as reads
-use Rattle.planner.proofs.cycle.suits.Lts as lts
 
 returns : tie.Need-returns
 returns c = search (suits-back, needs)

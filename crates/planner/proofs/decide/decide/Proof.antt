@@ -1,13 +1,8 @@
 -- The two cases of the greatest allocation. Assumes nothing.
 use Rattle.planner.proofs.DecideLaws.{fill-ready, decided-whole, decided-short}
 use borrow.Author.Needs.{needs}
-use borrow.Author.Needs.{needs}
 use Rattle.planner.proofs.decide.decide.Statement.{statement}
 use Rattle.planner.proofs.decide.decide.Tie as tie
-use Rattle.planner.proofs.decide.decide.Reads as reads
-use Rattle.planner.proofs.decide.decide.Lts as lts
-use Rattle.planner.proofs.decide.settle.Reads as settle-reads
-use Rattle.planner.proofs.flow.fill.Reads as fill-reads
 
 fill-requires : tie.Need-fill-requires
 fill-requires c κs = search (fill-ready, needs)

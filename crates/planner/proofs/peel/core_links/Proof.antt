@@ -7,10 +7,6 @@ use Rattle.planner.proofs.Links.{links-none, links-more, links-done}
 use borrow.Author.Needs.{needs}
 use Rattle.planner.proofs.peel.core_links.Statement.{statement}
 use Rattle.planner.proofs.peel.core_links.Tie as tie
-use Rattle.planner.proofs.peel.core_links.Reads as reads
-use Rattle.planner.proofs.peel.core_links.Lts as lts
-use Rattle.planner.proofs.peel.link.Reads as link-reads
-use Rattle.planner.proofs.sets.task_in.Reads as task-in-reads
 
 abbrev Inv-loop : tie.InvT-loop
 Inv-loop units tasks gone core count₀ i₀ count i = (count ≡ links i gone (λ j k. cell units k j) core) × (count ≤ i) × (i ≤ tasks)

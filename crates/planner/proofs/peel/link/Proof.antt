@@ -3,8 +3,6 @@ use Rattle.planner.proofs.Links.{link-some, link-empty, link-gone}
 use borrow.Author.Needs.{needs}
 use Rattle.planner.proofs.peel.link.Statement.{statement}
 use Rattle.planner.proofs.peel.link.Tie as tie
-use Rattle.planner.proofs.peel.link.Reads as reads
-use Rattle.planner.proofs.peel.link.Lts as lts
 
 returns : tie.Need-returns
 returns c = (search (link-some, needs), search needs)

@@ -6,11 +6,6 @@ use Rattle.planner.proofs.Loose.{FastBelow, fast-none, fast-more, loose
 use borrow.Author.Needs.{needs}
 use Rattle.planner.proofs.peel.loose_core.Statement.{statement}
 use Rattle.planner.proofs.peel.loose_core.Tie as tie
-use Rattle.planner.proofs.peel.loose_core.Reads as reads
-use Rattle.planner.proofs.peel.loose_core.Lts as lts
-use Rattle.planner.proofs.peel.core_links.Reads as core-links-reads
-use Rattle.planner.proofs.peel.stays.Reads as stays-reads
-use Rattle.planner.proofs.sets.core_in.Reads as core-in-reads
 
 abbrev Inv-loop : tie.InvT-loop
 Inv-loop units tasks cores tasks-gone cores-gone j₀ j = (j ≤ cores) × FastBelow cores-gone (links tasks tasks-gone (λ j i. cell units i j)) j

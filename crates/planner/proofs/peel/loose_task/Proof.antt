@@ -6,11 +6,6 @@ use Rattle.planner.proofs.Loose.{FastBelow, fast-none, fast-more, loose
 use borrow.Author.Needs.{needs}
 use Rattle.planner.proofs.peel.loose_task.Statement.{statement}
 use Rattle.planner.proofs.peel.loose_task.Tie as tie
-use Rattle.planner.proofs.peel.loose_task.Reads as reads
-use Rattle.planner.proofs.peel.loose_task.Lts as lts
-use Rattle.planner.proofs.peel.stays.Reads as stays-reads
-use Rattle.planner.proofs.peel.task_links.Reads as task-links-reads
-use Rattle.planner.proofs.sets.task_in.Reads as task-in-reads
 
 abbrev Inv-loop : tie.InvT-loop
 Inv-loop units tasks cores tasks-gone cores-gone i₀ i = (i ≤ tasks) × FastBelow tasks-gone (links cores cores-gone (cell units)) i

@@ -7,12 +7,6 @@ use Rattle.planner.proofs.Loose.{peel-task, peel-core, task-less, core-
 use borrow.Author.Needs.{needs}
 use Rattle.planner.proofs.peel.peel.Statement.{statement}
 use Rattle.planner.proofs.peel.peel.Tie as tie
-use Rattle.planner.proofs.peel.peel.Reads as reads
-use Rattle.planner.proofs.peel.peel.Lts as lts
-use Rattle.planner.proofs.peel.loose_core.Reads as loose-core-reads
-use Rattle.planner.proofs.peel.loose_task.Reads as loose-task-reads
-use Rattle.planner.proofs.sets.with_core.Reads as with-core-reads
-use Rattle.planner.proofs.sets.with_task.Reads as with-task-reads
 
 abbrev Inv-loop : tie.InvT-loop
 Inv-loop units tasks cores tasks-gone₀ cores-gone₀ tasks-gone cores-gone = Stripping tasks cores (cell units) tasks-gone cores-gone

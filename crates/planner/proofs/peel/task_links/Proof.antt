@@ -7,10 +7,6 @@ use Rattle.planner.proofs.Links.{links-none, links-more, links-done}
 use borrow.Author.Needs.{needs}
 use Rattle.planner.proofs.peel.task_links.Statement.{statement}
 use Rattle.planner.proofs.peel.task_links.Tie as tie
-use Rattle.planner.proofs.peel.task_links.Reads as reads
-use Rattle.planner.proofs.peel.task_links.Lts as lts
-use Rattle.planner.proofs.peel.link.Reads as link-reads
-use Rattle.planner.proofs.sets.core_in.Reads as core-in-reads
 
 abbrev Inv-loop : tie.InvT-loop
 Inv-loop units cores gone task count₀ j₀ count j = (count ≡ links j gone (cell units) task) × (count ≤ j) × (j ≤ cores)

@@ -1,4 +1,6 @@
 -- Each way out is a law of the step: weighs nothing, found already, found now. Assumes nothing.
+use mathlib.Core.Path.{_∙_}
+use Rattle.sets.proofs.Members.{joined-in}
 use Rattle.planner.proofs.SearchLaws.{find-nothing, find-known, find-new}
 use borrow.Author.Needs.{needs}
 use Rattle.planner.proofs.search.find.Statement.{statement}
@@ -27,7 +29,7 @@ reach-requires c κs = search needs
 
 returns-3 : tie.Need-returns-3
 returns-3 c = λ n masks w d e l.
-    find-new (c .before .before .before .before .before .before .before .args .t) (c .before .before .before .before .before .before .before .pre .2) d e l (c .before .before .before .before .before .before .if1 .left) (c .before .before .before .before .before .task-in .ensures .0) (c .before .before .before .before .before .task-in .ensures .1) (c .before .before .before .before .if2 .left) (c .before .before .before .with-task .ensures) (c .reach .ensures)
+    find-new (c .before .before .before .before .before .before .before .args .t) (c .before .before .before .before .before .before .before .pre .2) d e l (c .before .before .before .before .before .before .if1 .left) (c .before .before .before .before .before .task-in .ensures .0) (c .before .before .before .before .before .task-in .ensures .1) (c .before .before .before .before .if2 .left) (c .before .before .before .with-task .ensures ∙ joined-in 64 _ _ (c .before .before .before .before .before .before .before .pre .1)) (c .reach .ensures)
 
 pub find-spec : {M : Type 1} → statement M
 find-spec =

@@ -1,5 +1,8 @@
 -- Each way out is a law of the step: outside the mask, known already, queued. Assumes nothing.
+use mathlib.Core.Path.{_∙_}
+use native.Mathlib.Nat.{le-trans}
 use native.Mathlib.Omega.{arith}
+use Rattle.sets.proofs.Members.{joined-in}
 use Rattle.planner.proofs.SearchLaws.{one-outside, one-known, one-place, one-new}
 use borrow.Author.Needs.{needs}
 use Rattle.planner.proofs.search.reach_one.Statement.{statement}
@@ -38,7 +41,7 @@ with-core-requires c κs = search needs
 returns-3 : tie.Need-returns-3
 returns-3 c =
     one-new (c .before .before .before .before .before .args .j) (c .before .before .before .before .before .pre .2) (c .before .before .before .before .before .pre .1) (c .before .before .before .before .core-in .ensures .0) (c .before .before .before .before .core-in .ensures .1) (c .before .before .before .if1 .left)
-    (c .before .before .core-in2 .ensures .0) (c .before .before .core-in2 .ensures .1) (c .before .if2 .left) (c .with-core .ensures)
+    (c .before .before .core-in2 .ensures .0) (c .before .before .core-in2 .ensures .1) (c .before .if2 .left) (c .with-core .ensures ∙ joined-in 16 _ _ (le-trans (c .before .before .before .before .before .pre .1) (c .before .before .before .before .before .pre .0)))
 
 pub reach-one-spec : {M : Type 1} → statement M
 reach-one-spec =

@@ -2,11 +2,8 @@
 use mathlib.Core.Path.{sym}
 use borrow.Author.Tests.{eq-eqb, ne-eqb}
 use borrow.Author.Needs.{needs}
-use borrow.Author.Needs.{needs}
 use Rattle.planner.proofs.shift.core_before.Statement.{statement}
 use Rattle.planner.proofs.shift.core_before.Tie as tie
-use Rattle.planner.proofs.shift.core_before.Reads as reads
-use Rattle.planner.proofs.shift.core_before.Lts as lts
 
 sub-result : tie.Need-sub-result
 sub-result c = search needs

@@ -7,10 +7,6 @@ use Rattle.planner.proofs.RingLaws.{least-one, least-more, least-done, 
 use borrow.Author.Needs.{needs}
 use Rattle.planner.proofs.shift.least.Statement.{statement}
 use Rattle.planner.proofs.shift.least.Tie as tie
-use Rattle.planner.proofs.shift.least.Reads as reads
-use Rattle.planner.proofs.shift.least.Lts as lts
-use Rattle.planner.proofs.shift.lesser.Reads as lesser-reads
-use Rattle.planner.proofs.shift.units_at.Reads as units-at-reads
 
 abbrev Inv-loop : tie.InvT-loop
 Inv-loop units tasks cores lo hi d₀ i₀ d i = (lo + 1 ≤ i) × (i ≤ hi) × Least (cell units) (at tasks) (at cores) lo i d

@@ -2,11 +2,8 @@
 use Rattle.planner.proofs.Stores.{raise-fits, moved-by-stores}
 use lib.ListN.{length-set}
 use borrow.Author.Needs.{needs}
-use borrow.Author.Needs.{needs}
 use Rattle.planner.proofs.shift.move_units.Statement.{statement}
 use Rattle.planner.proofs.shift.move_units.Tie as tie
-use Rattle.planner.proofs.shift.move_units.Reads as reads
-use Rattle.planner.proofs.shift.move_units.Lts as lts
 
 mul-a : tie.Need-mul-a
 mul-a c = search needs

@@ -9,10 +9,6 @@ use Rattle.planner.proofs.RingLaws.{shift-begins, shift-task, shift-cor
 use borrow.Author.Needs.{needs}
 use Rattle.planner.proofs.shift.shift.Statement.{statement}
 use Rattle.planner.proofs.shift.shift.Tie as tie
-use Rattle.planner.proofs.shift.shift.Reads as reads
-use Rattle.planner.proofs.shift.shift.Lts as lts
-use Rattle.planner.proofs.shift.core_before.Reads as core-before-reads
-use Rattle.planner.proofs.shift.move_units.Reads as move-units-reads
 
 abbrev Inv-loop : tie.InvT-loop
 Inv-loop units₀ n m tasks cores lo hi d i₀ units i = (lo ≤ i) × (i ≤ hi) × (length units ≡ 1024) × Shifted n m (cell units₀) (cell units) (at tasks) (at cores) lo hi d i

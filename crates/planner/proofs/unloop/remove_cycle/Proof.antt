@@ -1,14 +1,8 @@
 -- The ring that was found serves the two that use it. Assumes nothing.
 use Rattle.planner.proofs.UnloopLaws.{ring-named}
 use borrow.Author.Needs.{needs}
-use borrow.Author.Needs.{needs}
 use Rattle.planner.proofs.unloop.remove_cycle.Statement.{statement}
 use Rattle.planner.proofs.unloop.remove_cycle.Tie as tie
-use Rattle.planner.proofs.unloop.remove_cycle.Reads as reads
-use Rattle.planner.proofs.unloop.remove_cycle.Lts as lts
-use Rattle.planner.proofs.cycle.find_cycle.Reads as find-cycle-reads
-use Rattle.planner.proofs.shift.least.Reads as least-reads
-use Rattle.planner.proofs.shift.shift.Reads as shift-reads
 
 find-cycle-requires : tie.Need-find-cycle-requires
 find-cycle-requires c κs = search needs

@@ -4,9 +4,6 @@ use Rattle.planner.proofs.UnloopLaws.{GoneBelow, gone-begins, gone-more
 use borrow.Author.Needs.{needs}
 use Rattle.planner.proofs.unloop.task_left.Statement.{statement}
 use Rattle.planner.proofs.unloop.task_left.Tie as tie
-use Rattle.planner.proofs.unloop.task_left.Reads as reads
-use Rattle.planner.proofs.unloop.task_left.Lts as lts
-use Rattle.planner.proofs.sets.task_in.Reads as task-in-reads
 
 abbrev Inv-loop : tie.InvT-loop
 Inv-loop tasks gone i₀ i = (i ≤ tasks) × GoneBelow gone i

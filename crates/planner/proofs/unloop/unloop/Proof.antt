@@ -11,11 +11,6 @@ use Rattle.forest.proofs.Strip.{all-gone}
 use borrow.Author.Needs.{needs}
 use Rattle.planner.proofs.unloop.unloop.Statement.{statement}
 use Rattle.planner.proofs.unloop.unloop.Tie as tie
-use Rattle.planner.proofs.unloop.unloop.Reads as reads
-use Rattle.planner.proofs.unloop.unloop.Lts as lts
-use Rattle.planner.proofs.peel.peel.Reads as peel-reads
-use Rattle.planner.proofs.unloop.remove_cycle.Reads as remove-cycle-reads
-use Rattle.planner.proofs.unloop.task_left.Reads as task-left-reads
 
 abbrev Inv-loop : tie.InvT-loop
 Inv-loop units₀ tasks cores tasks-gone₀ cores-gone₀ units tasks-gone cores-gone = (length units ≡ 1024) × Kept tasks cores (cell units₀) (cell units) × Stripping tasks cores (cell units) tasks-gone cores-gone

@@ -1,10 +1,9 @@
 -- Planned, walked, bounded: a task of a planned set, walked on the planned table, finishes each job by its release + T + F, and by its
 -- release + T where F divides T. The units of the task in a frame are its budget.
 -- Assumes nothing.
-use mathlib.Core.Path.{_≡_, refl, sym, _∙_, ap, subst}
-use mathlib.Core.List.{List, [], _∷_, _++_}
+use mathlib.Core.Path.{_≡_, sym, _∙_, ap, subst}
+use mathlib.Core.List.{List, _++_}
 use Prim.Native.Nat.{ℕ, suc, _+_, _*_, _≤_, _<_}
-use native.Mathlib.Omega.{arith}
 use lib.ListN.{length, getD, take, drop}
 use lib.Seq.{take-append-seam}
 use Rattle.rules.specs.Piece.{Piece, piecesOf, numbersOf}

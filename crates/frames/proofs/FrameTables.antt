@@ -1,71 +1,35 @@
 -- The table that an allocation fixes is a frame table with the exact budgets, on allowed cores, of at most n + 2m - 1 pieces.
 -- Assumes nothing.
 use mathlib.Core.Path.{_≡_, refl, sym, _∙_}
-use mathlib.Core.Bool.{Bool, true, false, _&&_}
+use mathlib.Core.Bool.{true}
 use mathlib.Core.List.{List, [], _∷_}
-use mathlib.Core.Logic.{⊎-elim}
 use Prim.Native.Nat.{ℕ, _+_, _*_, _≤_, _<_}
 use native.Mathlib.Nat.{le-refl, le-trans}
-use native.Mathlib.Decide.{ℕ-discrete}
 use native.Mathlib.Omega.{arith}
-use lib.Dec.{ltb}
 use lib.ListN.{length}
-use borrow.Author.Tests.{eq-eqb, ne-eqb, lt-ltb, le-ltb, le-leb}
+use borrow.Author.Tests.{le-leb}
 use Rattle.rules.specs.Sizes.{maxPieces, maxTasks}
 use Rattle.rules.specs.Sum.{sumTo}
 use Rattle.rules.specs.Piece.{Piece, numbersOf}
 use Rattle.rules.specs.Layout.{Walk, layout}
-use Rattle.rules.specs.Table.{cells, cellAt, coreTo, coresTo, tableOfCells, tableOf}
-use Rattle.rules.specs.FrameTable.{everyTwo, sound, ordered, overlap, coreApart, taskApart, framePieces, frameTable}
+use Rattle.rules.specs.Table.{cells, cellAt, coresTo, tableOfCells, tableOf}
+use Rattle.rules.specs.FrameTable.{everyTwo, sound, ordered, coreApart, taskApart, framePieces, frameTable}
 use Rattle.rules.specs.Service.{units}
 use Rattle.sums.proofs.Sum.{sum-cong, sum-term}
 use Rattle.forest.specs.Peeled.{Peeled}
 use Rattle.frames.specs.Ready.{Ready}
 use Rattle.frames.proofs.LaidOut.{laid-out, layout-firsts}
 use Rattle.stretches.proofs.PieceLists.{Every, Pairs, every-map, every-true, pairs-map, pairs-true}
-use Rattle.frames.proofs.Parts.{Away, Clear, InOrder, Both, Part, PartBelow, cores-parts, cores-both}
+use Rattle.frames.proofs.Parts.{Clear, Both, Part, PartBelow, cores-parts, cores-both}
 use Rattle.frames.proofs.Counts.{cores-at-most}
-use Rattle.stretches.proofs.Lengths.{part-at-most}
+use Rattle.stretches.proofs.Readings.{reads-sound, reads-core-apart, reads-task-apart, reads-ordered}
 use Rattle.stretches.proofs.Numbers.{pieces-of-numbers, numbers-whole}
 use Rattle.stretches.proofs.Cells.{cell-at}
 use Rattle.frames.proofs.Budgets.{Inside, units-are-weight, cores-weight}
 
-and-false : (a : Bool) {b : Bool} → b ≡ false → (a && b) ≡ false
-and-false true e = e
-and-false false e = refl
-
-away-no-overlap : (a b : Piece) → Away a b → overlap a b ≡ false
-unfolding overlap
-away-no-overlap a b w =
-    ⊎-elim (λ h. and-false (ltb (a .start) (b .start + b .len)) (le-ltb (b .start) (a .start + a .len) h))
-    (λ h. rw (le-ltb (a .start) (b .start + b .len) h)) w
-
-clear-core : (a b : Piece) → Clear a b → coreApart a b ≡ true
-unfolding coreApart
-clear-core a b c =
-    elim (ℕ-discrete (a .core) (b .core)) [
-      | yes e ↦ rw (eq-eqb (a .core) (b .core) e, away-no-overlap a b (c .on-core e))
-      | no ne ↦ rw (ne-eqb (a .core) (b .core) ne)
-    ]
-
-clear-task : (a b : Piece) → Clear a b → taskApart a b ≡ true
-unfolding taskApart
-clear-task a b c =
-    elim (ℕ-discrete (a .task) (b .task)) [
-      | yes e ↦ rw (eq-eqb (a .task) (b .task) e, away-no-overlap a b (c .of-task e))
-      | no ne ↦ rw (ne-eqb (a .task) (b .task) ne)
-    ]
-
-in-order : (a b : Piece) → InOrder a b → ordered a b ≡ true
-unfolding ordered
-in-order a b o =
-    ⊎-elim (λ h. rw (lt-ltb (a .core) (b .core) h))
-    (λ h. rw (le-ltb (a .core) (b .core) (omega (arith, h .0)), eq-eqb (a .core) (b .core) (h .0), le-leb (a .start) (b .start) (h .1))) (o .order)
-
 part-sound : (F n m : ℕ) (x : ℕ → ℕ → ℕ) (w : Walk) → n ≤ maxTasks → (p : Piece) → Part F n m x w p → sound F m p ≡ true
-unfolding sound
 part-sound F n m x w h p a =
-    rw (lt-ltb (p .core) m (a .core), lt-ltb (p .task) maxTasks (omega (arith, a .task)), le-leb 1 (p .len) (a .some), le-leb (p .start + p .len) F (a .inside))
+    reads-sound F m p (record { core = a .core; task = omega (arith, a .task); len = a .some; end = a .inside })
 
 -- of an allocation read as it stands
 module _ (F n m : ℕ) (x : ℕ → ℕ → ℕ) (r : Ready F n m x) where
@@ -81,23 +45,19 @@ module _ (F n m : ℕ) (x : ℕ → ℕ → ℕ) (r : Ready F n m x) where
   pub made-length : length made + 1 ≤ n + 2 * m
   made-length = cores-at-most F n m x (layout n m x) (r .frame-some) (r .cols) (layout-firsts n m x (r .peeled)) (r .peeled) (r .cores-some)
 
-  -- also while the table is being made
-  pub made-so-far : (j : ℕ) → j < m → (c : ℕ) → c ≤ n → length (coresTo F n m x (layout n m x) j) + length (coreTo F n m x (layout n m x) j c) + 1 ≤ n + 2 * m
-  made-so-far j jm c cn = omega (arith, made-length, part-at-most F n m x (layout n m x) (r .frame-some) (r .cols) (layout-firsts n m x (r .peeled)) j jm c cn)
-
   made-pieces : framePieces F m made ≡ true
   unfolding framePieces
   made-pieces =
       rw (
         le-leb (length made) maxPieces (omega (arith, made-length, r .tasks-most, r .cores-most)),
         every-true (sound F m) made (every-map (PartBelow F n m x (layout n m x) (r .frame-some) (r .rows) (r .cols) (layout-firsts n m x (r .peeled)) (laid-out n m x (r .peeled)) m) (λ p. sound F m p ≡ true) made (λ p h. part-sound F n m x (layout n m x) (r .tasks-most) p (h .0)) made-parts),
-        pairs-true Both ordered made (λ a b h. in-order a b (h .1)) made-both,
-        pairs-true Both coreApart made (λ a b h. clear-core a b (h .0)) made-both,
-        pairs-true Both taskApart made (λ a b h. clear-task a b (h .0)) made-both,
+        pairs-true Both ordered made (λ a b h. reads-ordered a b (h .1 .order)) made-both,
+        pairs-true Both coreApart made (λ a b h. reads-core-apart a b (h .0 .on-core)) made-both,
+        pairs-true Both taskApart made (λ a b h. reads-task-apart a b (h .0 .of-task)) made-both,
       )
 
   made-tasks : everyTwo taskApart made ≡ true
-  made-tasks = pairs-true Both taskApart made (λ a b h. clear-task a b (h .0)) made-both
+  made-tasks = pairs-true Both taskApart made (λ a b h. reads-task-apart a b (h .0 .of-task)) made-both
 
   made-clear : Pairs Clear made
   made-clear = pairs-map (λ p. Unit {0}) Both Clear made (λ a b u v h. h .0) (all made) made-both

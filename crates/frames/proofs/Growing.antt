@@ -99,9 +99,6 @@ module _ (n m : ℕ) (x : ℕ → ℕ → ℕ) where
     pub firsts : (k : ℕ) → w .first k ≤ n
 
   module _ (p : Peeled n m x) (w₀ w : Walk) (g : Growing w₀ w) (j : ℕ) (jm : j < m) (here : 0 < w .reached j) (new : w₀ .reached j ≡ 0) (t : ℕ) (tn : t < n) (runs : 0 < x t j) (unmet : w .met t ≡ 0) where
-    more-tasks : ℕ → ℕ
-    more-tasks = put t 1 (newTasks w₀ w)
-
     none-yet : newTasks w₀ w t ≡ 0
     none-yet = omega arith
 

@@ -15,17 +15,14 @@ use Rattle.sums.proofs.Sum.{sum-term}
 use Rattle.stretches.proofs.Reaching.{zero-of}
 use Rattle.frames.proofs.Growing.{Laid}
 use Rattle.stretches.proofs.Ahead.{ahead-first, ahead-ends, ahead-apart, apart-in-frame}
+use Rattle.stretches.proofs.Readings.{Disjoint}
 use Rattle.stretches.proofs.Cuts.{cut-fits, cut-crosses, pieces-none, pieces-some}
 use Rattle.stretches.proofs.PieceLists.{Every, Pairs, NoLater, every-append, every-insert-all, every-map, pairs-append, pairs-insert-all, pairs-map, sorted-insert-all}
 
--- over before the other begins
-abbrev pub Away : Piece → Piece → Type 0
-Away a b = (a .start + a .len ≤ b .start) ⊎ (b .start + b .len ≤ a .start)
-
 -- apart where they share a core or a task
 pub record Clear (a b : Piece) : Type 0 where
-  pub on-core : a .core ≡ b .core → Away a b
-  pub of-task : a .task ≡ b .task → Away a b
+  pub on-core : a .core ≡ b .core → Disjoint a b
+  pub of-task : a .task ≡ b .task → Disjoint a b
 
 -- in order of core and then start
 pub record InOrder (a b : Piece) : Type 0 where
@@ -35,7 +32,7 @@ pub record InOrder (a b : Piece) : Type 0 where
 abbrev pub Both : Piece → Piece → Type 0
 Both a b = Clear a b × InOrder a b
 
-pub away-turn : (a b : Piece) → Away a b → Away b a
+pub away-turn : (a b : Piece) → Disjoint a b → Disjoint b a
 away-turn a b w = ⊎-elim inr inl w
 
 pub clear-turn : (a b : Piece) → Clear a b → Clear b a

@@ -50,8 +50,5 @@ module _ (n m : ℕ) (x : ℕ → ℕ → ℕ) (task core : ℕ → ℕ) (lo hi 
         cores = λ i k l. omega (arith, r .cores-below i k l);
       }
 
-  pub ring-ready : (d : ℕ) → Least x task core lo hi d → ((c : ℕ) → c < n → sumTo m (x c) ≤ 1000000) → ShiftReady n m x task core lo hi d
-  ring-ready d least small = record { tasks = a; cores = b; places = places; ring = r; least = least; small = small }
-
 pub seek-ready : (n m : ℕ) (x : ℕ → ℕ → ℕ) (g h r : ℕ) → n ≤ 64 → m ≤ 16 → Fast n m x g h → FirstThere n g r → r < n → SeekReady n m x g h r
 seek-ready n m x g h r a b f t l = record { tasks = a; cores = b; below = l; still = t .still l; fast = f }

@@ -1,7 +1,7 @@
 -- An allocation in which at most one task has units on two cores has no cycle: a cycle has two such tasks.
 -- Assumes nothing.
 use mathlib.Core.Path.{_≡_}
-use Prim.Native.Nat.{ℕ, zero, suc, _-_, _≤_, _<_}
+use Prim.Native.Nat.{ℕ, _-_, _<_}
 use native.Mathlib.Omega.{arith}
 use Rattle.rules.specs.Loops.{Cycle, LoopFree}
 

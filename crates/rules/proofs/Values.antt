@@ -1,7 +1,7 @@
 -- Values worked out by hand, beside those of document 01: each definition that can be run agrees with them.
 -- Assumes nothing.
 use mathlib.Core.Path.{_≡_, refl}
-use mathlib.Core.Bool.{Bool, true, false}
+use mathlib.Core.Bool.{true, false}
 use mathlib.Core.List.{List, [], _∷_}
 use Prim.Native.Nat.{ℕ, _+_, _*_}
 use lib.Dec.{eqb}
@@ -12,22 +12,22 @@ use Rattle.rules.specs.Sets.{has, members, union}
 use Rattle.rules.specs.Answer.{numberOf, valuesOf}
 use Rattle.rules.specs.Excess.{groupBudget, capacity, groupCapacity}
 use Rattle.rules.specs.Extra.{coresOf, extra}
-use Rattle.rules.specs.Piece.{Piece, firstPieces, piecesOf, numbersOf}
+use Rattle.rules.specs.Piece.{firstPieces, piecesOf, numbersOf}
 use Rattle.rules.specs.FrameTable.{every, everyTwo, sound, ordered, overlap, coreApart, taskApart, framePieces, frameTable}
 use Rattle.rules.specs.Moves.{insert, byStart, changesAfter, changes, moves}
-use Rattle.rules.specs.Service.{covers, covered, unit, units}
+use Rattle.rules.specs.Service.{covers, covered, units}
 use Rattle.rules.specs.Finish.{beginOf}
 use Rattle.rules.specs.Obeys.{allowed}
 use Rattle.rules.specs.Layout.{ahead, begun, stretch, reachOne, reach, meetMark, meetOne, meet, visitMark, visit, waiting, unvisited, nextCore, visits, layout}
 use Rattle.rules.specs.Table.{row, cells, cellAt, cut, insertAll, piecesOn, coreTo, coresTo, tableOfCells, tableOf}
-use Rattle.rules.specs.Tests.{testedSet, badFrame, badCores, badTasks, badMask, badBudget, shortTable, Tested, refused, passed, tested}
+use Rattle.rules.specs.Tests.{testedSet, badFrame, badCores, badTasks, badMask, badBudget, shortTable, refused, passed, tested}
 use Rattle.rules.specs.Check.{checkAnswer, movesAnswer}
 use Rattle.rules.specs.Jobs.{badJobCount, early, badJob, firstBadJob, firstAsking}
 use Rattle.rules.specs.Walked.{walkTested}
 use Rattle.rules.specs.Line.{isDecimal, isLetter, isDigit, digitValue, digitOf, digitsAt, field, digits, taskFields, allDigits, wellWritten, lineBudgets, pieceLine, pieceLines, answerRest, answerLine}
 use Rattle.rules.specs.LineCall.{lentTable}
 use Rattle.rules.specs.Plan.{at}
-use Rattle.rules.specs.declared.Answer.the-variants.{Accepted, FrameLength, CoreCount, TaskCount, Mask, Budget, ShortTable, Overloaded, NotTable, JobList, NoUnits, ShortFinishes}
+use Rattle.rules.specs.declared.Answer.the-variants.{Accepted, FrameLength, TaskCount, Mask, ShortTable, Overloaded, NotTable, NoUnits}
 
 -- the longest answer line: the number, the count and 95 pieces of ten bytes, two digits a byte
 sizes-value : 2 * (1 + 2 + maxPieces * 10) ≡ leastOutput

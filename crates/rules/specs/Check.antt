@@ -1,7 +1,7 @@
 -- The answers of the table check and of the move count over all inputs: "The table check and the move count test 1, 2, 8."
 -- Assumes nothing.
 use Prim.Native.Nat.{ℕ}
-use mathlib.Core.Bool.{Bool, true, false, cond}
+use mathlib.Core.Bool.{cond}
 use mathlib.Core.List.{List}
 use Rattle.rules.specs.Tests.{badFrame, badCores}
 use Rattle.rules.specs.Piece.{piecesOf}

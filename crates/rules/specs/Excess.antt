@@ -2,7 +2,6 @@
 -- "excess": the sum of its budgets less F × the number of cores in the union of its masks, here less the sum of these cores' limits.
 -- An excess may be below zero, so two of them are compared with each core term on the other side, and nothing is subtracted.
 -- Assumes nothing.
-use mathlib.Core.Path.{_≡_}
 use Prim.Native.Nat.{ℕ, _+_, _*_, _^_, _≤_, _<_}
 use Rattle.rules.specs.Sum.{sumTo}
 use Rattle.rules.specs.Sets.{has, union}

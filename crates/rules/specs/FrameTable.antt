@@ -1,12 +1,12 @@
 -- Document 01, "What counts as a frame table", as a test that can be run.
 -- Assumes nothing.
 use Prim.Native.Nat.{ℕ, _+_, _%_}
-use mathlib.Core.Bool.{Bool, true, false, not, _&&_, _||_}
+use mathlib.Core.Bool.{Bool, true, not, _&&_, _||_}
 use mathlib.Core.List.{List, [], _∷_}
 use lib.Dec.{eqb, leb, ltb}
 use lib.ListN.{length}
 use Rattle.rules.specs.Sizes.{maxPieces, maxTasks}
-use Rattle.rules.specs.Piece.{Piece, piecesOf, wholePieces}
+use Rattle.rules.specs.Piece.{Piece, piecesOf}
 
 -- every piece passes
 unfoldable pub every : (Piece → Bool) → List Piece → Bool

@@ -2,7 +2,7 @@
 -- A procedure that can be run: the cores are visited one after another, and a task that is met on a visited core reaches its other cores.
 -- Assumes nothing.
 use Prim.Native.Nat.{ℕ, zero, suc, _+_, _*_}
-use mathlib.Core.Bool.{Bool, true, false, cond}
+use mathlib.Core.Bool.{true, false, cond}
 use lib.Dec.{eqb, ltb}
 use Rattle.rules.specs.Sum.{sumTo, put, lowest}
 

@@ -7,10 +7,9 @@ use Prim.Native.Nat.{ℕ, _*_}
 use lib.Dec.{ltb}
 use lib.ListN.{length, drop, replicate}
 use Rattle.rules.specs.Sizes.{maxPieces, leastOutput}
-use Rattle.rules.specs.Piece.{Piece, firstPieces}
+use Rattle.rules.specs.Piece.{firstPieces}
 use Rattle.rules.specs.Line.{wellWritten, lineFrame, lineCores, lineBudgets, lineMasks, answerLine}
 use Rattle.rules.specs.Plan.{PlanAnswer}
-use Rattle.rules.specs.declared.Answer.{Answer}
 use Rattle.rules.specs.declared.Answer.the-variants.{BadLine}
 use Rattle.rules.specs.declared.Planned.{Planned}
 

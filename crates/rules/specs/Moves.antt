@@ -2,7 +2,7 @@
 -- differs from the piece before it. The move count is the sum over tasks."
 -- Assumes nothing.
 use Prim.Native.Nat.{ℕ, _+_}
-use mathlib.Core.Bool.{Bool, true, false, cond}
+use mathlib.Core.Bool.{true, false, cond}
 use mathlib.Core.List.{List, [], _∷_}
 use lib.Dec.{eqb, leb}
 use Rattle.rules.specs.Sizes.{maxTasks}

@@ -2,7 +2,6 @@
 -- Only the choice among loop-free allocations is open (docs/EXCEPTIONS.md).
 -- Assumes nothing.
 use mathlib.Core.Path.{_≡_}
-use mathlib.Core.Logic.{_⊎_}
 use mathlib.Core.List.{List, _++_}
 use Prim.Native.Nat.{ℕ, _*_}
 use lib.ListN.{length, getD, drop}
@@ -10,7 +9,7 @@ use Rattle.rules.specs.Sets.{union}
 use Rattle.rules.specs.Allocation.{Allocation}
 use Rattle.rules.specs.Excess.{Exceeds, Smallest}
 use Rattle.rules.specs.Loops.{LoopFree}
-use Rattle.rules.specs.Piece.{Piece, numbersOf}
+use Rattle.rules.specs.Piece.{numbersOf}
 use Rattle.rules.specs.Table.{tableOf}
 use Rattle.rules.specs.Tests.{Tested, refused, passed, tested}
 use Rattle.rules.specs.declared.Answer.{Answer}

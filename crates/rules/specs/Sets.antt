@@ -1,6 +1,6 @@
 -- Document 01, "Mask: 16 bits, bit j for core j", and the group of answer 7, "bit i for task i": a set of numbers is one number.
 -- Assumes nothing.
-use Prim.Native.Nat.{ℕ, zero, suc, _+_, _*_, _/_, _%_, _^_}
+use Prim.Native.Nat.{ℕ, zero, suc, _*_, _/_, _%_, _^_}
 use lib.Bits.{bitOr}
 use Rattle.rules.specs.Sum.{sumTo}
 

@@ -2,16 +2,16 @@
 -- A line is written as the number whose digits it shows.
 -- Assumes nothing.
 use mathlib.Core.Path.{_≡_}
-use mathlib.Core.Bool.{Bool, true, false}
+use mathlib.Core.Bool.{false}
 use mathlib.Core.List.{List, [], _∷_, _++_}
 use Prim.Native.Nat.{ℕ, _+_, _*_, _≤_, _<_}
 use lib.ListN.{length, getD, drop}
 use Rattle.rules.specs.Sets.{union}
 use Rattle.rules.specs.Excess.{groupBudget, groupCapacity, Smallest}
-use Rattle.rules.specs.Piece.{Piece, piecesOf, wholePieces}
+use Rattle.rules.specs.Piece.{piecesOf, wholePieces}
 use Rattle.rules.specs.Moves.{moves}
 use Rattle.rules.specs.Tests.{shortTable}
-use Rattle.rules.specs.Plan.{at, limit, PlanAnswer, PlannedBy}
+use Rattle.rules.specs.Plan.{at, limit, PlanAnswer}
 use Rattle.rules.specs.Finish.{Finishes}
 use Rattle.rules.specs.Line.{digits}
 use Rattle.rules.specs.LineCall.{LineAnswer}

@@ -7,4 +7,5 @@ pub mod Lengths
 pub mod Numbers
 pub mod PieceLists
 pub mod Reaching
+pub mod Readings
 pub mod Visits

@@ -1,3 +1,4 @@
+pub mod Both
 pub mod Inserted
 pub mod Lowest
 pub mod Pigeon

@@ -103,10 +103,6 @@ with-other s k i ne = has-with s k i ∙ put-other k 1 (has s) i ne
 pub with-keeps : (s k i : ℕ) → has s i ≡ 1 → has (bitOr s (2 ^ k)) i ≡ 1
 with-keeps s k i h = has-or s (2 ^ k) i ∙ omega (arith, has-lt (2 ^ k) i)
 
--- a member of the larger set is the new one or was there
-pub with-from : (s k i : ℕ) → (i ≡ k → ⊥) → has (bitOr s (2 ^ k)) i ≡ 1 → has s i ≡ 1
-with-from s k i ne h = sym (with-other s k i ne) ∙ h
-
 pub with-lt : (n s k : ℕ) → s < 2 ^ n → k < n → bitOr s (2 ^ k) < 2 ^ n
 with-lt n s k h l = or-lt n s (2 ^ k) h (pow-lt l)
 
@@ -123,19 +119,6 @@ has-ext (suc n) a b ha hb h =
     (λ i l. sym (has-next a i) ∙ h (suc i) (omega arith) ∙ has-next b i))
   where
     join : a % 2 ≡ b % 2 → a / 2 ≡ b / 2 → a ≡ b
-    join p q = omega arith
-
--- a set within another is no larger a number
-pub has-sub : (n a b : ℕ) → a < 2 ^ n → ((i : ℕ) → i < n → has a i ≤ has b i) → a ≤ b
-has-sub zero a b ha h = omega (arith, pow-zero 2)
-has-sub (suc n) a b ha h =
-    join (least (has-first a) (has-first b) (h 0 (omega arith)))
-    (has-sub n (a / 2) (b / 2) (half-lt n a ha) (λ i l. least (has-next a i) (has-next b i) (h (suc i) (omega arith))))
-  where
-    least : {p q r s : ℕ} → p ≡ q → r ≡ s → p ≤ r → q ≤ s
-    least e f l = omega arith
-
-    join : a % 2 ≤ b % 2 → a / 2 ≤ b / 2 → a ≤ b
     join p q = omega arith
 
 -- ---- the union of the masks of a group

@@ -139,10 +139,6 @@ pub positive-le : (n : ℕ) → positive n ≤ 1
 positive-le zero = omega arith
 positive-le (suc n) = omega arith
 
-pub positive-le-self : (n : ℕ) → positive n ≤ n
-positive-le-self zero = omega arith
-positive-le-self (suc n) = omega arith
-
 pub positive-of : (n : ℕ) → 0 < n → positive n ≡ 1
 positive-of zero h = absurd (not-suc-le-zero h)
 positive-of (suc n) h = refl

@@ -1,31 +1,20 @@
 -- Laws on a test at every place below a number, and the frame table's definition as such tests.
 -- Assumes nothing.
 use mathlib.Core.Path.{_≡_, refl, sym, _∙_, ap, ap₂}
-use mathlib.Core.Bool.{Bool, true, false, not, _&&_, _||_, and-false, and-true, and-assoc}
+use mathlib.Core.Bool.{Bool, true, false, _&&_, and-false, and-true, and-assoc}
 use mathlib.Core.List.{List, [], _∷_, _++_}
-use Prim.Native.Nat.{ℕ, zero, suc, _+_, _/_, _%_, _≤_, _<_}
+use Prim.Native.Nat.{ℕ, zero, suc, _+_, _%_, _<_}
 use native.Mathlib.Nat.{not-suc-le-zero}
 use native.Mathlib.Decide.{ℕ-discrete}
 use native.Mathlib.Numerals.{add-one}
 use native.Mathlib.Omega.{arith}
-use lib.Dec.{eqb, leb, ltb}
+use lib.Dec.{eqb, leb}
 use lib.ListN.{length, length-append}
-use Rattle.rules.specs.Piece.{Piece, pieceAt, firstPieces, piecesOf, wholePieces}
-use Rattle.rules.specs.FrameTable.{every, everyTwo, sound, ordered, coreApart, taskApart, framePieces, frameTable}
+use Rattle.rules.specs.Piece.{Piece, pieceAt, firstPieces, wholePieces}
+use Rattle.rules.specs.FrameTable.{every, everyTwo, framePieces, frameTable}
+use Rattle.sums.proofs.Both.{and-left, and-right, and-both}
 use Rattle.table.specs.All.{allTo}
 use Rattle.table.specs.Read.{together, follows, passes}
-
-pub and-left : (a b : Bool) → (a && b) ≡ true → a ≡ true
-and-left true b e = refl
-and-left false b e = e
-
-pub and-right : (a b : Bool) → (a && b) ≡ true → b ≡ true
-and-right true b e = e
-and-right false true e = refl
-and-right false false e = e
-
-pub and-both : {a b : Bool} → a ≡ true → b ≡ true → (a && b) ≡ true
-and-both p q = rw (p, q)
 
 -- two tests that are true of the same are equal
 pub same-test : (a b : Bool) → (a ≡ true → b ≡ true) → (b ≡ true → a ≡ true) → a ≡ b
@@ -48,11 +37,6 @@ pub true-all : (n : ℕ) (f : ℕ → Bool) → ((k : ℕ) → k < n → f k ≡
 unfolding allTo
 true-all zero f h = refl
 true-all (suc n) f h = and-both (true-all n f (λ k l. h k (omega arith))) (h n (omega arith))
-
-pub all-cong : (n : ℕ) {f g : ℕ → Bool} → ((k : ℕ) → f k ≡ g k) → allTo n f ≡ allTo n g
-unfolding allTo
-all-cong zero h = refl
-all-cong (suc n) {f} {g} h = ap₂ _&&_ (all-cong n h) (h n)
 
 -- the loop's three laws: none passed, one more passes, one fails
 module _ (f : ℕ → Bool) where

@@ -1,7 +1,7 @@
 -- The loops of the table check, and the answers 0, 1, 2 and 8: one law for each return.
 -- Assumes nothing.
-use mathlib.Core.Path.{_≡_, refl, sym, _∙_, ap}
-use mathlib.Core.Bool.{Bool, true, false, not, _&&_, _||_, and-false}
+use mathlib.Core.Path.{_≡_, sym}
+use mathlib.Core.Bool.{Bool, true, false, not, _&&_}
 use mathlib.Core.List.{List}
 use Prim.Native.Nat.{ℕ, _+_, _/_, _%_, _≤_, _<_}
 use native.Mathlib.Omega.{arith}
@@ -11,7 +11,6 @@ use Rattle.rules.specs.Piece.{Piece, pieceAt, wholePieces}
 use Rattle.rules.specs.FrameTable.{sound, frameTable}
 use Rattle.rules.specs.Tests.{badFrame, badCores}
 use Rattle.rules.specs.Check.{checkAnswer}
-use Rattle.rules.specs.declared.Answer.{Answer}
 use Rattle.rules.specs.declared.Answer.the-variants.{Accepted, FrameLength, CoreCount, NotTable}
 use Rattle.table.specs.All.{allTo}
 use Rattle.table.specs.Read.{together, follows, passes}

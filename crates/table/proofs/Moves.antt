@@ -3,9 +3,8 @@
 use mathlib.Core.Path.{_≡_, refl, sym, _∙_, ap, ap₂}
 use mathlib.Core.Bool.{Bool, true, false, cond, not, _&&_, _||_, or-true, true≢false}
 use mathlib.Core.List.{List, [], _∷_}
-use Prim.Native.Nat.{ℕ, zero, suc, _+_, _*_, _-_, _/_, _^_, _≤_, _<_}
+use Prim.Native.Nat.{ℕ, _+_, _*_, _-_, _/_, _^_, _≤_, _<_}
 use native.Mathlib.Decide.{ℕ-discrete, decLe}
-use Prim.{Unit, tt}
 use native.Mathlib.Numerals.{add-one}
 use native.Mathlib.Omega.{arith}
 use lib.Dec.{eqb, leb, ltb}
@@ -14,7 +13,7 @@ use borrow.Author.Tests.{lt-ltb, le-ltb, le-leb, lt-leb, eq-eqb, ne-eqb, not-tru
 use Rattle.rules.specs.Sum.{sumTo}
 use Rattle.rules.specs.Piece.{Piece, pieceAt, piecesOf, wholePieces}
 use Rattle.rules.specs.FrameTable.{frameTable}
-use Rattle.rules.specs.Moves.{insert, byStart, changesAfter, changes, moves}
+use Rattle.rules.specs.Moves.{byStart, changesAfter, changes, moves}
 use Rattle.rules.specs.Tests.{badFrame, badCores}
 use Rattle.rules.specs.Check.{checkAnswer, movesAnswer}
 use Rattle.rules.specs.declared.Answer.{Answer}
@@ -25,6 +24,7 @@ use Rattle.table.specs.Framed.{Framed}
 use Rattle.table.specs.Sizes.{sizesPass}
 use Rattle.table.proofs.All.{length-first}
 use Rattle.table.proofs.Member.{by-start-own, by-start-other}
+use Rattle.stretches.proofs.Readings.{Sound}
 use Rattle.table.proofs.Reading.{table-reads}
 use Rattle.table.proofs.Rest.{rest, next-rest, next-last, rest-whole, next-from}
 use Rattle.sums.proofs.Inserted.{length-insert}
@@ -99,7 +99,7 @@ module _ (l : List ℕ) (task : ℕ) (framed : Framed l) where
       omega (arith, ap (λ (q : Piece). q .start) at-k, ap (λ (q : Piece). q .len) at-k, reads .end, framed .short),
     )
       where
-        reads : Rattle.table.proofs.Reading.Sound (framed .frame) (framed .cores) (pieceAt l k)
+        reads : Sound (framed .frame) (framed .cores) (pieceAt l k)
         reads = table-reads (framed .frame) (framed .cores) l (framed .table) .sound k inside
 
     pub end-fits : (a b : ℕ) → a ≡ p .start → b ≡ p .len → a + b < 2 ^ 32

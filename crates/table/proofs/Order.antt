@@ -1,32 +1,28 @@
 -- A task's pieces by start follow each other without overlap, on every frame table.
 -- Assumes nothing.
 use mathlib.Core.Path.{_≡_, refl, sym, _∙_, ap}
-use mathlib.Core.Bool.{Bool, true, false, not, _&&_}
+use mathlib.Core.Bool.{Bool, true, _&&_}
 use mathlib.Core.List.{List, [], _∷_}
-use mathlib.Core.Logic.{_⊎_, inl, inr, ⊎-elim}
+use mathlib.Core.Logic.{inl, inr}
 use Prim.{Unit, tt}
-use Prim.Native.Nat.{ℕ, zero, suc, _+_, _%_, _≤_, _<_}
-use native.Mathlib.Nat.{le-trans}
-use native.Mathlib.Decide.{ℕ-discrete, decLt, decLe}
+use Prim.Native.Nat.{ℕ, _+_, _%_, _≤_, _<_}
+use native.Mathlib.Decide.{ℕ-discrete, decLe}
 use native.Mathlib.Omega.{arith}
-use lib.Dec.{eqb, leb, ltb}
+use lib.Dec.{eqb, leb}
 use lib.ListN.{length}
-use Rattle.rules.specs.Piece.{Piece, pieceAt, piecesOf, wholePieces}
+use Rattle.rules.specs.Piece.{Piece, piecesOf}
 use Rattle.rules.specs.FrameTable.{every, everyTwo, sound, ordered, coreApart, taskApart, framePieces, frameTable}
 use Rattle.rules.specs.Moves.{insert, byStart}
-use Rattle.table.proofs.All.{and-left, and-right}
+use Rattle.sums.proofs.Both.{and-left, and-right}
 use Rattle.table.proofs.Member.{In, by-start-own, by-start-other, in-by-start}
-use Rattle.table.proofs.Reading.{Disjoint, task-apart-reads, sound-reads, every-in}
+use Rattle.stretches.proofs.Readings.{Disjoint, task-apart-reads, sound-reads}
+use Rattle.table.proofs.Reading.{every-in}
 use Rattle.sums.proofs.Inserted.{insert-later, insert-here}
 
 -- no piece before b; each has a length, and starts at the end of the one before it or later
 abbrev pub Chain : ℕ → List Piece → Type 0
 Chain b [] = Unit {0}
 Chain b (q ∷ l) = (b ≤ q .start) × (1 ≤ q .len) × Chain (q .start + q .len) l
-
-pub chain-from : (a b : ℕ) (l : List Piece) → a ≤ b → Chain b l → Chain a l
-chain-from a b [] h c = tt
-chain-from a b (q ∷ l) h c = (le-trans h (c .0), c .1, c .2)
 
 pub chain-start : (b : ℕ) (l : List Piece) (q : Piece) → Chain b l → In q l → b ≤ q .start
 chain-start b (p ∷ l) q c (inl e) = rw (ap (λ (r : Piece). r .start) e) (c .0)

@@ -1,9 +1,9 @@
 -- The task's pieces from an instant on: the search for the next piece finds the first of them, and the rest follow its end.
 -- Assumes nothing.
 use mathlib.Core.Path.{_≡_, refl, sym, _∙_, ap}
-use mathlib.Core.Bool.{Bool, true, false, cond, _&&_}
+use mathlib.Core.Bool.{true, false, cond}
 use mathlib.Core.List.{List, [], _∷_}
-use mathlib.Core.Logic.{_⊎_, inl, inr, ⊎-elim}
+use mathlib.Core.Logic.{inl, inr, ⊎-elim}
 use Prim.Native.Nat.{ℕ, zero, suc, _+_, _/_, _≤_, _<_}
 use native.Mathlib.Nat.{not-suc-le-zero, le-refl}
 use native.Mathlib.Decide.{ℕ-discrete, decLt, decLe}
@@ -15,7 +15,7 @@ use borrow.Author.Tests.{le-leb, lt-leb, lt-ltb, le-ltb}
 use Rattle.rules.specs.Piece.{Piece, pieceAt, piecesOf, wholePieces}
 use Rattle.rules.specs.FrameTable.{frameTable}
 use Rattle.rules.specs.Moves.{byStart}
-use Rattle.table.specs.Next.{sooner, nextTo, nextPiece}
+use Rattle.table.specs.Next.{nextTo, nextPiece}
 use Rattle.table.proofs.Next.{sooner-task, sooner-early, sooner-first, sooner-start, next-better, next-same}
 use Rattle.table.proofs.Member.{In, in-by-start, by-start-in, in-first, first-in}
 use Rattle.table.proofs.Order.{Chain, chain-start, chain-of-table}
@@ -188,13 +188,6 @@ module _ (F m : ℕ) (l : List ℕ) (task from : ℕ) (table : frameTable F m l 
   -- from the start of the frame on, all of them
   pub rest-whole : rest 0 (byStart task (piecesOf l)) ≡ byStart task (piecesOf l)
   rest-whole = rest-all 0 0 (byStart task (piecesOf l)) (chain-of-table F m l task table) (le-refl _)
-
-  pub next-at-most : (k : ℕ) → k ≡ nextPiece l task from → k ≤ length l / 4
-  next-at-most k e = go (rw (← e) at found)
-    where
-      go : Found l task from (wholePieces l) k → k ≤ length l / 4
-      go (nothing d f) = omega arith
-      go (piece n i f) = omega arith
 
   pub next-from : (k : ℕ) → k ≡ nextPiece l task from → k < length l / 4 → (pieceAt l k .task ≡ task) × (from ≤ pieceAt l k .start)
   next-from k e h = go (rw (← e) at found)

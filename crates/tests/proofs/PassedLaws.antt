@@ -1,7 +1,7 @@
 -- What is known of a set that passed the tests 1 to 6.
 -- Assumes nothing.
 use mathlib.Core.Path.{_≡_, refl, sym, subst}
-use mathlib.Core.Bool.{Bool, true, false, cond, not, _||_, true≢false}
+use mathlib.Core.Bool.{Bool, true, false, cond, not}
 use mathlib.Core.List.{List, [], _∷_}
 use Prim.Native.Nat.{ℕ, zero, suc, _+_, _*_, _/_, _%_, _^_, _≤_, _<_}
 use native.Mathlib.Nat.{mod-lt}
@@ -16,6 +16,7 @@ use Rattle.rules.specs.Plan.{at}
 use Rattle.rules.specs.Tests.{Tested, refused, passed, badFrame, badCores, badTasks, badMask, badBudget, shortTable, testedSet, thenRoom, tested}
 use Rattle.rules.specs.declared.Answer.{Answer}
 use Rattle.rules.specs.declared.Answer.the-variants.{FrameLength, CoreCount, TaskCount, Mask, Budget, ShortTable}
+use Rattle.sums.proofs.Both.{or-left, or-right}
 use Rattle.tests.specs.Given.{Given, Admitted}
 use Rattle.tests.proofs.FirstLaws.{first-cons-hit, first-cons-miss}
 
@@ -26,14 +27,6 @@ never a e = let z : _≡_ {A = ℕ} 0 1 = cc in omega arith
 passes : (b : Bool) (a : Answer) (t : Tested) → cond b (refused a) t ≡ passed → (b ≡ false) × (t ≡ passed)
 passes true a t e = absurd (never a e)
 passes false a t e = (refl, e)
-
-or-left : (a b : Bool) → (a || b) ≡ false → a ≡ false
-or-left true b e = e
-or-left false b e = refl
-
-or-right : (a b : Bool) → (a || b) ≡ false → b ≡ false
-or-right true b e = absurd (true≢false e)
-or-right false b e = e
 
 head-fails : (p : ℕ → Bool) (a : ℕ) (s : List ℕ) (b : Bool) → p a ≡ b → suc (length s) ≤ firstAt p (a ∷ s) → (p a ≡ false) × (length s ≤ firstAt p s)
 head-fails p a s true e h = absurd (short (first-cons-hit p a s e) h)

@@ -1,27 +1,23 @@
 -- What an accepted walk says: the tests passed, and each place holds its job's finish. The bound and a worked call follow.
 -- Assumes nothing.
-use mathlib.Core.Path.{_≡_, refl, sym, _∙_, ap, ap₂}
+use mathlib.Core.Path.{_≡_, refl, sym, _∙_, ap}
 use mathlib.Core.Bool.{Bool, true, false, cond, _&&_, _||_, true≢false}
-use mathlib.Core.List.{List, [], _∷_}
-use Prim.Native.Nat.{ℕ, zero, suc, _+_, _-_, _*_, _%_, _≤_, _<_, max}
-use native.Mathlib.Nat.{le-refl, not-suc-le-zero}
-use native.Mathlib.Decide.{ℕ-discrete, decLe}
+use mathlib.Core.List.{List}
+use Prim.Native.Nat.{ℕ, suc, _+_, _*_, _≤_, _<_}
 use native.Mathlib.Omega.{arith}
-use lib.Dec.{eqb, leb, ltb}
+use lib.Dec.{eqb, ltb}
 use lib.ListN.{length, getD}
 use borrow.Author.Tests.{eqb-false}
-use Rattle.rules.specs.Tests.{Tested, refused, passed, badFrame, badCores}
-use Rattle.rules.specs.Sum.{sumTo, lowest}
-use Rattle.rules.specs.Piece.{Piece, piecesOf, firstPieces}
-use Rattle.rules.specs.FrameTable.{every, everyTwo, sound, ordered, overlap, coreApart, taskApart, framePieces, frameTable}
-use Rattle.rules.specs.Service.{covers, covered, unit, units}
-use Rattle.rules.specs.Finish.{Finish, Finishes, beginOf}
-use Rattle.rules.specs.Jobs.{badJobCount, early, badJob, firstBadJob, firstAsking}
+use Rattle.rules.specs.Tests.{refused, passed, badFrame, badCores}
+use Rattle.rules.specs.Piece.{piecesOf}
+use Rattle.rules.specs.FrameTable.{frameTable}
+use Rattle.rules.specs.Service.{units}
+use Rattle.rules.specs.Jobs.{badJobCount, firstBadJob, firstAsking}
 use Rattle.rules.specs.Walked.{walkTested, WalkRefusal, WalkDone, WalkAnswerAt, WalkAnswer}
 use Rattle.rules.specs.declared.Answer.{Answer}
 use Rattle.rules.specs.declared.Answer.the-variants.{Accepted, FrameLength, CoreCount, NotTable, JobList, NoUnits, ShortFinishes}
 use Rattle.walker.specs.Jobs.{accepts}
-use Rattle.walker.proofs.Bound.{units-mono, finish-by-release-plus-period-plus-frame, finish-by-release-plus-period}
+use Rattle.walker.proofs.Bound.{finish-by-release-plus-period-plus-frame, finish-by-release-plus-period}
 
 module _ (F m : ℕ) (table : List ℕ) (task : ℕ) (releases jobs before : List ℕ) (r : Answer) (after : List ℕ)
     (answer : WalkAnswer F m table task releases jobs before r after) (yes-answer : r ≡ Accepted) where
@@ -58,9 +54,6 @@ module _ (F m : ℕ) (table : List ℕ) (task : ℕ) (releases jobs before : Lis
 
       above : (F ≡ 0 → ⊥) → 1 ≤ F
       above h = omega arith
-
-  pub accepted-table : frameTable F m table ≡ true
-  accepted-table = all .0 .2
 
   pub accepted-done : WalkDone F table task releases jobs before r after
   accepted-done = all .1

@@ -2,14 +2,13 @@
 -- c × F at most b × T. Each job finishes by its release plus T plus F, and by its release plus T where F divides T.
 -- It is proved over the rules' finish, job by job, and needs nothing of the pieces beside that.
 -- Assumes nothing.
-use mathlib.Core.Path.{_≡_, refl, sym, _∙_, ap, ap₂}
+use mathlib.Core.Path.{_≡_, refl, sym, _∙_, ap}
 use mathlib.Core.Bool.{Bool, true, false}
 use mathlib.Core.List.{List, [], _∷_}
-use Prim.Native.Nat.{ℕ, zero, suc, _+_, _-_, _*_, _/_, _%_, _≤_, _<_, max}
-use native.Mathlib.Nat.{le-refl, le-trans, mul-le-mul-left, mul-le-mul-right, le-of-mul-le-mul-right, mul-assoc, mul-comm, mul-left-comm, mul-right-comm, lt-div-mul-add, max-eq-left, max-eq-right}
+use Prim.Native.Nat.{ℕ, zero, suc, _+_, _*_, _/_, _%_, _≤_, _<_}
+use native.Mathlib.Nat.{le-refl, le-trans, mul-le-mul-left, le-of-mul-le-mul-right, mul-assoc, mul-comm, mul-left-comm, mul-right-comm, lt-div-mul-add, max-eq-left, max-eq-right}
 use native.Mathlib.Decide.{ℕ-discrete, decLe}
 use native.Mathlib.Omega.{arith}
-use lib.Dec.{eqb, leb, ltb}
 use Rattle.rules.specs.Sum.{sumTo}
 use Rattle.rules.specs.Piece.{Piece}
 use Rattle.rules.specs.Service.{covers, covered, unit, units}

@@ -1,23 +1,24 @@
 -- The units of a task's pieces by start are the instants that some piece of the task covers, on every frame table.
 -- Assumes nothing.
-use mathlib.Core.Path.{_≡_, refl, sym, _∙_, ap, ap₂}
-use mathlib.Core.Bool.{Bool, true, false, _&&_, and-false}
+use mathlib.Core.Path.{_≡_, refl, sym, _∙_, ap}
+use mathlib.Core.Bool.{true, _&&_, and-false}
 use mathlib.Core.List.{List, [], _∷_}
-use mathlib.Core.Logic.{_⊎_, inl, inr, ⊎-elim}
-use Prim.Native.Nat.{ℕ, zero, suc, _+_, _%_, _≤_, _<_}
+use mathlib.Core.Logic.{inl, inr}
+use Prim.Native.Nat.{ℕ, _+_, _%_, _≤_, _<_}
 use native.Mathlib.Decide.{ℕ-discrete, decLt, decLe}
 use native.Mathlib.Omega.{arith}
-use lib.Dec.{eqb, leb, ltb}
+use lib.Dec.{eqb, leb}
 use lib.ListN.{length}
 use borrow.Author.Tests.{lt-ltb, le-ltb, le-leb, lt-leb, eq-eqb, ne-eqb}
 use Rattle.rules.specs.Piece.{Piece, piecesOf}
 use Rattle.rules.specs.FrameTable.{every, everyTwo, sound, ordered, coreApart, taskApart, framePieces, frameTable}
 use Rattle.rules.specs.Moves.{insert, byStart}
 use Rattle.rules.specs.Service.{covers, covered}
-use Rattle.table.proofs.All.{and-left, and-right}
+use Rattle.sums.proofs.Both.{and-left, and-right}
 use Rattle.table.proofs.Member.{In, by-start-own, by-start-other, in-by-start}
 use Rattle.sums.proofs.Inserted.{insert-later, insert-here}
-use Rattle.table.proofs.Reading.{Disjoint, task-apart-reads, every-in}
+use Rattle.stretches.proofs.Readings.{Disjoint, task-apart-reads}
+use Rattle.table.proofs.Reading.{every-in}
 use Rattle.walker.specs.Served.{inside}
 use Rattle.walker.proofs.Units.{inside-in, inside-before, inside-after}
 

@@ -1,24 +1,21 @@
 -- Document 01's examples P9 and P10 as calls of walk, by the rules' definitions; P10 meets the premises of the finish bound.
 -- Assumes nothing.
-use mathlib.Core.Path.{_≡_, refl, sym, _∙_, ap}
-use mathlib.Core.Bool.{Bool, true, false, cond, _&&_, _||_}
+use mathlib.Core.Path.{refl}
 use mathlib.Core.List.{List, [], _∷_}
-use Prim.Native.Nat.{ℕ, zero, suc, _+_, _*_, _≤_, _<_, max}
-use native.Mathlib.Nat.{not-suc-le-zero}
+use Prim.Native.Nat.{ℕ, zero, suc, _+_, _*_, _≤_, _<_}
 use native.Mathlib.Decide.{decLe}
 use native.Mathlib.Omega.{arith}
 use lib.Dec.{lit<, lit≤}
 use Prim.{tt}
-use lib.ListN.{length, getD}
-use Rattle.rules.specs.Tests.{Tested, refused, passed, badFrame, badCores}
+use lib.ListN.{getD}
+use Rattle.rules.specs.Tests.{badFrame, badCores}
 use Rattle.rules.specs.Sum.{sumTo, lowest}
 use Rattle.rules.specs.Piece.{Piece, piecesOf, firstPieces}
 use Rattle.rules.specs.FrameTable.{every, everyTwo, sound, ordered, overlap, coreApart, taskApart, framePieces, frameTable}
-use Rattle.rules.specs.Service.{covers, covered, unit, units}
+use Rattle.rules.specs.Service.{covers, covered, units}
 use Rattle.rules.specs.Finish.{Finish, Finishes, beginOf}
 use Rattle.rules.specs.Jobs.{badJobCount, early, badJob, firstBadJob, firstAsking}
 use Rattle.rules.specs.Walked.{walkTested, WalkAnswer}
-use Rattle.rules.specs.declared.Answer.{Answer}
 use Rattle.rules.specs.declared.Answer.the-variants.{Accepted}
 use Rattle.walker.proofs.Bound.{units-mono}
 use Rattle.walker.proofs.Accepted.{walked-finish-by-release-plus-period-plus-frame}

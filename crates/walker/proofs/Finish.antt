@@ -1,16 +1,16 @@
 -- The closed form of a finish is the least instant, by the count of units.
 -- Assumes nothing.
-use mathlib.Core.Path.{_≡_, refl, sym, _∙_, ap, ap₂}
+use mathlib.Core.Path.{_≡_, refl, sym, _∙_, ap}
 use mathlib.Core.List.{List}
-use Prim.Native.Nat.{ℕ, zero, suc, _+_, _-_, _*_, _/_, _%_, _^_, _≤_, _<_, min, max}
-use native.Mathlib.Nat.{le-refl, le-trans, mod-lt, div-add-mod', div-mul-le-self, mul-le-mul-left, mul-le-mul-right}
-use native.Mathlib.Decide.{ℕ-discrete, decLt, decLe}
+use Prim.Native.Nat.{ℕ, _+_, _-_, _*_, _/_, _%_, _^_, _≤_, _<_}
+use native.Mathlib.Nat.{le-refl, mod-lt, div-add-mod', div-mul-le-self, mul-le-mul-left}
+use native.Mathlib.Decide.{decLe}
 use native.Mathlib.Omega.{arith}
-use lib.ListN.{length, getD}
+use lib.ListN.{length}
 use Rattle.rules.specs.Sum.{sumTo}
 use Rattle.walker.specs.Served.{unitTo, servedTo, unitsOf, Spans}
-use Rattle.walker.specs.Least.{LeastAt, Reached, FinishBy}
-use Rattle.walker.specs.Step.{Ready, UnitAt, Counted, StepReady, Stepped}
+use Rattle.walker.specs.Least.{LeastAt, Reached}
+use Rattle.walker.specs.Step.{UnitAt, Counted, StepReady, Stepped}
 use Rattle.walker.proofs.Units.{served-sum, units-mono, units-le, total-le, units-at, units-div, units-later}
 
 module _ (F : ℕ) (starts lens : List ℕ) (total : ℕ) (counted : Counted F starts lens total) where

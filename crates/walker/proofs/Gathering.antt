@@ -1,27 +1,26 @@
 -- The loop that gathers the walked task's pieces by start.
 -- Assumes nothing.
-use mathlib.Core.Path.{_≡_, refl, sym, _∙_, ap, ap₂}
-use mathlib.Core.Bool.{Bool, true, false}
+use mathlib.Core.Path.{_≡_, sym, _∙_, ap, ap₂}
 use mathlib.Core.List.{List, [], _∷_}
-use Prim.Native.Nat.{ℕ, zero, suc, _+_, _-_, _*_, _/_, _%_, _^_, _≤_, _<_}
-use native.Mathlib.Nat.{not-suc-le-zero, le-refl}
-use native.Mathlib.Decide.{ℕ-discrete, decLt, decLe}
+use Prim.Native.Nat.{ℕ, _+_, _-_, _*_, _/_, _%_, _^_, _≤_, _<_}
+use native.Mathlib.Nat.{not-suc-le-zero}
+use native.Mathlib.Decide.{ℕ-discrete}
 use native.Mathlib.Numerals.{add-one}
 use native.Mathlib.Omega.{arith}
 use lib.ListN.{length, getD, take, set, length-set}
 use lib.Seq.{getD-set-same, getD-set-other, getD-take, length-take-le}
 use Rattle.rules.specs.Sum.{sumTo}
 use Rattle.rules.specs.Piece.{Piece, pieceAt, piecesOf, wholePieces}
-use Rattle.rules.specs.FrameTable.{frameTable}
 use Rattle.rules.specs.Moves.{byStart}
-use Rattle.rules.specs.Service.{covered, units}
+use Rattle.rules.specs.Service.{units}
 use Rattle.sums.proofs.Sum.{sum-cong}
 use Rattle.table.specs.Next.{nextPiece}
 use Rattle.table.proofs.All.{length-first}
-use Rattle.table.proofs.Reading.{Sound, table-reads}
+use Rattle.stretches.proofs.Readings.{Sound}
+use Rattle.table.proofs.Reading.{table-reads}
 use Rattle.table.proofs.Rest.{rest, next-rest, next-last, rest-whole, next-from}
 use Rattle.table.proofs.Moves.{length-by-start}
-use Rattle.walker.specs.Served.{inside, unitTo, unitsOf, Spans}
+use Rattle.walker.specs.Served.{inside, unitTo, unitsOf}
 use Rattle.walker.specs.Gathered.{FrameOf, Gathered}
 use Rattle.walker.proofs.Covered.{insides, table-covered}
 

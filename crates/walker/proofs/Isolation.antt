@@ -1,21 +1,19 @@
 -- Other models' pieces change no finish: two frame tables with the same pieces of the walked task give the same answer and the same list.
 -- Assumes nothing.
-use mathlib.Core.Path.{_≡_, refl, sym, _∙_, ap, ap₂}
-use mathlib.Core.Bool.{Bool, true, false, cond, _&&_}
+use mathlib.Core.Path.{_≡_, refl, sym, _∙_, ap}
+use mathlib.Core.Bool.{Bool, true, false, cond}
 use mathlib.Core.List.{List, [], _∷_}
-use Prim.Native.Nat.{ℕ, _+_, _%_, _≤_, _<_}
+use Prim.Native.Nat.{ℕ, _%_}
 use native.Mathlib.Decide.{ℕ-discrete}
 use native.Mathlib.Omega.{arith}
-use lib.Dec.{eqb, leb, ltb}
-use lib.ListN.{length, getD}
+use lib.Dec.{eqb}
 use borrow.Author.Tests.{eq-eqb, ne-eqb}
-use Rattle.rules.specs.Sum.{sumTo}
 use Rattle.rules.specs.Tests.{Tested, refused, passed}
 use Rattle.rules.specs.Piece.{Piece, piecesOf}
 use Rattle.rules.specs.FrameTable.{frameTable}
-use Rattle.rules.specs.Service.{covers, covered, unit, units}
+use Rattle.rules.specs.Service.{covers, covered, units}
 use Rattle.rules.specs.Finish.{Finish}
-use Rattle.rules.specs.Walked.{walkTested, WalkDone, WalkAnswerAt, WalkAnswer}
+use Rattle.rules.specs.Walked.{walkTested, WalkAnswerAt, WalkAnswer}
 use Rattle.rules.specs.declared.Answer.{Answer}
 use Rattle.sums.proofs.Sum.{sum-cong}
 use Rattle.walker.proofs.Unique.{walk-answer-unique}

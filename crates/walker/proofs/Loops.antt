@@ -1,18 +1,17 @@
 -- The loops over the task's stretches: one law for each of their needs.
 -- Assumes nothing.
-use mathlib.Core.Path.{_≡_, refl, sym, _∙_, ap, ap₂}
+use mathlib.Core.Path.{_≡_, refl, _∙_, ap, ap₂}
 use mathlib.Core.List.{List}
-use Prim.Native.Nat.{ℕ, zero, suc, _+_, _-_, _*_, _^_, _≤_, _<_, min}
-use native.Mathlib.Nat.{not-suc-le-zero, le-refl}
-use native.Mathlib.Decide.{ℕ-discrete, decLt, decLe}
+use Prim.Native.Nat.{ℕ, _+_, _-_, _*_, _^_, _≤_, _<_, min}
+use native.Mathlib.Decide.{decLt}
 use native.Mathlib.Numerals.{add-one}
 use native.Mathlib.Omega.{arith}
 use lib.ListN.{length, getD}
 use Rattle.rules.specs.Sum.{sumTo}
 use Rattle.sums.proofs.Sum.{sum-mono}
-use Rattle.walker.specs.Served.{servedTo, Spans}
+use Rattle.walker.specs.Served.{servedTo}
 use Rattle.walker.specs.Step.{Ready, UnitAt}
-use Rattle.walker.proofs.Units.{startAt, lenAt, served-at, served-total}
+use Rattle.walker.proofs.Units.{lenAt, served-at, served-total}
 
 module _ (starts lens : List ℕ) (r : ℕ) where
   -- the parts of the first i stretches, each below 2 ^ 32

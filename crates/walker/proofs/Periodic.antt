@@ -1,12 +1,11 @@
 -- Sums of a function of the instant within the frame: whole frames, and what is left.
 -- Assumes nothing.
-use mathlib.Core.Path.{_≡_, refl, sym, _∙_, ap, ap₂}
-use Prim.Native.Nat.{ℕ, zero, suc, _+_, _*_, _/_, _%_, _≤_, _<_}
+use mathlib.Core.Path.{_≡_, sym, _∙_, ap, ap₂}
+use Prim.Native.Nat.{ℕ, zero, suc, _+_, _*_, _/_, _%_, _≤_}
 use native.Mathlib.Nat.{le-refl, add-mod-left, mod-eq-of-lt, div-add-mod', mod-lt}
-use native.Mathlib.Decide.{ℕ-discrete, decLt, decLe}
 use native.Mathlib.Omega.{arith}
 use Rattle.rules.specs.Sum.{sumTo}
-use Rattle.sums.proofs.Sum.{sum-cong, sum-le, sum-split, sum-mono, sum-count}
+use Rattle.sums.proofs.Sum.{sum-cong, sum-split}
 
 module _ (F : ℕ) (pos : 1 ≤ F) (f : ℕ → ℕ) where
   -- the function at the instant t, the frame repeated

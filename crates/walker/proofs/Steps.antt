@@ -1,10 +1,10 @@
 -- The loop over the jobs: each place below the clock's job holds its finish.
 -- Assumes nothing.
-use mathlib.Core.Path.{_≡_, refl, sym, _∙_, ap, ap₂}
-use mathlib.Core.List.{List, [], _∷_}
-use Prim.Native.Nat.{ℕ, zero, suc, _+_, _-_, _*_, _^_, _≤_, _<_, min, max}
+use mathlib.Core.Path.{_≡_, refl, sym, _∙_}
+use mathlib.Core.List.{List}
+use Prim.Native.Nat.{ℕ, zero, suc, _+_, _*_, _≤_, _<_, max}
 use native.Mathlib.Nat.{not-suc-le-zero, le-refl, max-zero, mul-le-mul-right}
-use native.Mathlib.Decide.{ℕ-discrete, decLt, decLe}
+use native.Mathlib.Decide.{ℕ-discrete}
 use native.Mathlib.Numerals.{add-one}
 use native.Mathlib.Omega.{arith}
 use lib.ListN.{length, getD, set, drop, length-set}
@@ -13,7 +13,7 @@ use Rattle.rules.specs.Finish.{beginOf}
 use Rattle.walker.specs.Served.{unitsOf}
 use Rattle.walker.specs.Least.{FinishBy}
 use Rattle.walker.specs.Step.{StepReady, Stepped}
-use Rattle.walker.specs.Jobs.{JobsGood, Finished, AllReady}
+use Rattle.walker.specs.Jobs.{Finished, AllReady}
 
 -- the finish before job k; 0 before the first
 abbrev pub prior : List ℕ → ℕ → ℕ

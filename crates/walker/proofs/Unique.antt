@@ -1,7 +1,7 @@
 -- Any two answers that the contract of walk allows for one input are equal, and so are the lists that it leaves.
 -- Assumes nothing.
-use mathlib.Core.Path.{_≡_, refl, sym, _∙_, ap, ap₂}
-use mathlib.Core.List.{List, [], _∷_}
+use mathlib.Core.Path.{_≡_, sym, _∙_, ap}
+use mathlib.Core.List.{List}
 use Prim.Native.Nat.{ℕ, zero, suc, _+_, _-_, _≤_, _<_, max}
 use native.Mathlib.Decide.{decLt}
 use native.Mathlib.Omega.{arith}
@@ -9,9 +9,8 @@ use lib.ListN.{length, getD, drop}
 use lib.Seq.{ext-getD, getD-drop}
 use Rattle.rules.specs.Tests.{Tested, refused, passed}
 use Rattle.rules.specs.Piece.{Piece, piecesOf}
-use Rattle.rules.specs.Service.{units}
 use Rattle.rules.specs.Finish.{Finish, Finishes, beginOf}
-use Rattle.rules.specs.Walked.{walkTested, WalkRefusal, WalkDone, WalkAnswerAt, WalkAnswer}
+use Rattle.rules.specs.Walked.{walkTested, WalkAnswerAt, WalkAnswer}
 use Rattle.rules.specs.declared.Answer.{Answer}
 
 module _ (F : ℕ) (ps : List Piece) (task : ℕ) where

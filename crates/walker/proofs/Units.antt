@@ -1,17 +1,17 @@
 -- The units that a task's stretches give: within the frame by the parts of the stretches, and over all time.
 -- Assumes nothing.
-use mathlib.Core.Path.{_≡_, refl, sym, _∙_, ap, ap₂}
-use mathlib.Core.Bool.{Bool, true, false, cond, _&&_, and-false}
+use mathlib.Core.Path.{_≡_, _∙_}
+use mathlib.Core.Bool.{and-false}
 use mathlib.Core.List.{List}
 use Prim.Native.Nat.{ℕ, zero, suc, _+_, _-_, _*_, _/_, _%_, _≤_, _<_, min}
-use native.Mathlib.Nat.{not-suc-le-zero, le-refl, mod-lt}
-use native.Mathlib.Decide.{ℕ-discrete, decLt, decLe}
+use native.Mathlib.Nat.{not-suc-le-zero, le-refl}
+use native.Mathlib.Decide.{ℕ-discrete, decLt}
 use native.Mathlib.Omega.{arith}
-use lib.Dec.{leb, ltb}
+use lib.Dec.{leb}
 use lib.ListN.{length, getD}
 use borrow.Author.Tests.{lt-ltb, le-ltb, le-leb, lt-leb}
 use Rattle.rules.specs.Sum.{sumTo}
-use Rattle.sums.proofs.Sum.{sum-cong, sum-le, sum-zero, sum-split, sum-swap, sum-mono, sum-count}
+use Rattle.sums.proofs.Sum.{sum-cong, sum-zero, sum-swap, sum-mono, sum-count}
 use Rattle.walker.specs.Served.{inside, unitTo, servedTo, unitsOf, Spans}
 use Rattle.walker.proofs.Periodic.{again-frames, again-at, again-div}
 

@@ -1,31 +1,31 @@
 -- The answers of a walk: one law for each return.
 -- Assumes nothing.
-use mathlib.Core.Path.{_≡_, refl, sym, _∙_, ap, ap₂}
-use mathlib.Core.Bool.{Bool, true, false, cond, not, _&&_, _||_, and-false, true≢false}
-use mathlib.Core.List.{List, [], _∷_}
-use Prim.Native.Nat.{ℕ, zero, suc, _+_, _-_, _*_, _≤_, _<_, min, max}
+use mathlib.Core.Path.{_≡_, refl, sym, _∙_, ap}
+use mathlib.Core.Bool.{Bool, true, false, cond, not, _&&_, _||_, true≢false}
+use mathlib.Core.List.{List}
+use Prim.Native.Nat.{ℕ, _+_, _*_, _≤_, _<_, min}
 use native.Mathlib.Nat.{le-refl}
-use native.Mathlib.Decide.{ℕ-discrete, decLt, decLe}
+use native.Mathlib.Decide.{ℕ-discrete}
 use native.Mathlib.Omega.{arith}
-use lib.Dec.{eqb, leb, ltb}
-use lib.ListN.{length, getD, take, drop}
+use lib.Dec.{eqb, ltb}
+use lib.ListN.{length, getD, take}
 use lib.Seq.{length-take-le}
 use borrow.Author.Tests.{lt-ltb, le-ltb, eq-eqb, ne-eqb, ltb-false, eqb-false, not-true, not-false}
 use Rattle.rules.specs.Tests.{Tested, refused, passed, badFrame, badCores}
 use Rattle.rules.specs.Piece.{piecesOf}
 use Rattle.rules.specs.FrameTable.{frameTable}
 use Rattle.rules.specs.Service.{units}
-use Rattle.rules.specs.Finish.{Finish, beginOf}
+use Rattle.rules.specs.Finish.{Finish}
 use Rattle.rules.specs.Jobs.{badJobCount, firstBadJob, firstAsking}
 use Rattle.rules.specs.Check.{checkAnswer}
-use Rattle.rules.specs.Walked.{walkTested, WalkRefusal, WalkDone, WalkAnswerAt, WalkAnswer}
+use Rattle.rules.specs.Walked.{walkTested, WalkAnswerAt, WalkAnswer}
 use Rattle.rules.specs.declared.Answer.{Answer}
 use Rattle.rules.specs.declared.Answer.the-variants.{Accepted, FrameLength, CoreCount, NotTable, JobList, NoUnits, ShortFinishes}
-use Rattle.walker.specs.Served.{servedTo, unitsOf, Spans}
+use Rattle.walker.specs.Served.{servedTo, unitsOf}
 use Rattle.walker.specs.Least.{FinishBy}
-use Rattle.walker.specs.Step.{Ready, Counted}
+use Rattle.walker.specs.Step.{Ready}
 use Rattle.walker.specs.Gathered.{FrameOf, Gathered}
-use Rattle.walker.specs.Jobs.{accepts, jobsAnswer, JobsGood, spansTested, Finished, SpansDone, SpansAnswerAt, SpansAnswer, AllReady, taskTested, TaskAnswer}
+use Rattle.walker.specs.Jobs.{accepts, jobsAnswer, JobsGood, spansTested, Finished, SpansAnswerAt, SpansAnswer, AllReady, taskTested, TaskAnswer}
 use Rattle.walker.proofs.Units.{units-at}
 use Rattle.walker.proofs.Gathering.{gathered-units}
 use Rattle.walker.proofs.Jobs.{nothing-asked, jobs-accepted, jobs-good}
@@ -102,9 +102,6 @@ module _ (F : ℕ) (l : List ℕ) (task : ℕ) (starts lens releases jobs before
             size = h .finished .size;
             kept = h .finished .kept;
           }
-
-  pub task-ready : FrameOf F l → Ready F starts lens
-  task-ready f = record { frame = f .some; short = f .short; spans = gathered .spans }
 
 -- the front of a list of 95
 pub take-long : (n : ℕ) (xs : List ℕ) → n ≤ 95 → length xs ≡ 95 → n ≡ length (take n xs)

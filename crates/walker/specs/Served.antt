@@ -1,7 +1,7 @@
 -- A task's own stretches of a frame as two lists, where each starts and how long it is, and the units that they give.
 -- Assumes nothing.
 use mathlib.Core.Path.{_≡_}
-use mathlib.Core.Bool.{Bool, cond, _&&_}
+use mathlib.Core.Bool.{cond, _&&_}
 use mathlib.Core.List.{List}
 use Prim.Native.Nat.{ℕ, _+_, _-_, _%_, _≤_, _<_, min}
 use lib.Dec.{leb, ltb}

@@ -2,10 +2,9 @@
 -- Assumes nothing.
 use mathlib.Core.Path.{_≡_}
 use mathlib.Core.List.{List}
-use mathlib.Core.Logic.{_⊎_}
-use Prim.Native.Nat.{ℕ, _+_, _*_, _-_, _^_, _≤_, _<_, min}
+use Prim.Native.Nat.{ℕ, _+_, _*_, _^_, _≤_, _<_, min}
 use Rattle.walker.specs.Least.{FinishBy}
-use lib.ListN.{length, getD}
+use lib.ListN.{length}
 use Rattle.walker.specs.Served.{servedTo, unitsOf, Spans}
 
 -- a frame length of the sizes, and the task's stretches in it

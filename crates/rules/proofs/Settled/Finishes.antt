@@ -1,20 +1,20 @@
 -- P9 and P10, by the definition of finish: the instant before it has too few units, and units never fall.
 -- Assumes nothing.
-use mathlib.Core.Path.{_≡_, refl, sym, _∙_, ap, subst}
+use mathlib.Core.Path.{_≡_, refl, sym, subst}
 use mathlib.Core.List.{List, [], _∷_}
 use Prim.Native.Nat.{ℕ, zero, suc, _+_, _≤_, _<_, max}
-use native.Mathlib.Nat.{not-suc-le-zero, le-antisymm}
+use native.Mathlib.Nat.{le-antisymm}
 use native.Mathlib.Decide.{decLe}
 use native.Mathlib.Omega.{arith}
 use lib.Dec.{lit<, lit≤}
-use lib.ListN.{length, getD}
+use lib.ListN.{getD}
 use Rattle.rules.specs.Sum.{sumTo}
 use Rattle.rules.specs.Piece.{Piece, firstPieces, piecesOf}
 use Rattle.rules.specs.Moves.{insert, byStart, changesAfter, changes, moves}
 use Rattle.rules.specs.Service.{covers, covered, unit, units}
 use Rattle.rules.specs.Finish.{Finish, beginOf, Finishes}
 use Rattle.rules.specs.Plan.{at}
-use Rattle.rules.specs.Settled.{Holds, OnlyFinishes, moved, finishes, passes, tableP1}
+use Rattle.rules.specs.Settled.{Holds, moved, finishes, passes, tableP1}
 
 sums-grow : (f : ℕ → ℕ) (a b : ℕ) → a ≤ b → sumTo a f ≤ sumTo b f
 unfolding sumTo

@@ -1,18 +1,17 @@
 -- P2, P3 and P6: the group is the smallest of greatest excess among all groups. P4: a budget above F.
 -- Assumes nothing.
 use mathlib.Core.Path.{_≡_, refl}
-use mathlib.Core.List.{List, [], _∷_}
-use Prim.Native.Nat.{ℕ, _+_, _^_, _≤_, _<_}
+use mathlib.Core.List.{[], _∷_}
+use Prim.Native.Nat.{ℕ, _+_, _≤_}
 use native.Mathlib.Omega.{arith}
 use lib.Dec.{lit<}
-use lib.ListN.{length}
 use Rattle.rules.specs.Sum.{sumTo, firstAt}
 use Rattle.rules.specs.Sets.{has, union}
 use Rattle.rules.specs.Excess.{groupBudget, capacity, groupCapacity, Exceeds, Smallest}
 use Rattle.rules.specs.Tests.{testedSet, badFrame, badCores, badTasks, badMask, badBudget, tested}
 use Rattle.rules.specs.Plan.{at, limit}
-use Rattle.rules.specs.Settled.{Only, Holds, overloads, refuses}
-use Rattle.rules.specs.declared.Answer.the-variants.{Overloaded, Budget}
+use Rattle.rules.specs.Settled.{Holds, overloads, refuses}
+use Rattle.rules.specs.declared.Answer.the-variants.{Budget}
 use Rattle.rules.proofs.Computed.{greatestTest, smallestTest, smallest-computed, sameTest, same-computed}
 use Rattle.rules.proofs.Settled.Sets.{Alloc, Passes, overloaded-only, refused-only}
 

@@ -1,18 +1,18 @@
 -- What the examples of planned sets share: an accepted set from its one allocation, a refusal, an overload from its group.
 -- Assumes nothing.
 use mathlib.Core.Path.{_≡_, refl, sym, _∙_, ap, subst, subst⁻¹}
-use mathlib.Core.List.{List, [], _∷_, _++_}
-use Prim.Native.Nat.{ℕ, suc, _+_, _*_, _^_, _≤_, _<_}
+use mathlib.Core.List.{List, [], _++_}
+use Prim.Native.Nat.{ℕ, _*_, _^_, _≤_, _<_}
 use native.Mathlib.Omega.{arith}
 use lib.ListN.{length, drop}
 use Rattle.rules.specs.Sets.{has, union}
 use Rattle.rules.specs.Allocation.{Allocation}
-use Rattle.rules.specs.Excess.{NoMore, Exceeds, Smallest}
+use Rattle.rules.specs.Excess.{Exceeds, Smallest}
 use Rattle.rules.specs.Loops.{LoopFree}
-use Rattle.rules.specs.Piece.{Piece, numbersOf}
+use Rattle.rules.specs.Piece.{numbersOf}
 use Rattle.rules.specs.Table.{tableOf}
 use Rattle.rules.specs.Tests.{Tested, refused, passed, tested}
-use Rattle.rules.specs.Plan.{at, limit, Refusal, PlannedBy, OverloadedBy, Decided, planned, overloaded, PlanAnswer, PlanAnswerAt}
+use Rattle.rules.specs.Plan.{at, limit, Refusal, PlannedBy, OverloadedBy, Decided, planned, overloaded, PlanAnswerAt}
 use Rattle.rules.specs.Settled.{Roomy, Only}
 use Rattle.rules.specs.declared.Answer.{Answer}
 use Rattle.rules.specs.declared.Answer.the-variants.{Accepted, Overloaded}

@@ -1,7 +1,6 @@
 -- `table::task_moves` meets its contract: each need is answered by a law of the crate's proofs.
 -- Assumes nothing.
 use Prim.Native.Nat.{_-_}
-use native.Mathlib.Omega.{arith}
 use Rattle.table.proofs.Moves.{Counting, counting-none, counting-first, end-fits, counting-less, counting-fits, counting-more, counting-done}
 use borrow.Author.Needs.{needs}
 use Rattle.table.proofs.task_moves.Statement.{statement}

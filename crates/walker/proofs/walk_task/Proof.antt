@@ -1,6 +1,6 @@
 -- `walker::walk_task` meets its contract: each need is answered by a law of the crate's proofs.
 -- Assumes nothing.
-use Rattle.walker.proofs.Walking.{take-long, task-answer, task-ready}
+use Rattle.walker.proofs.Walking.{take-long, task-answer}
 use borrow.Author.Needs.{needs}
 use Rattle.walker.proofs.walk_task.Statement.{statement}
 use Rattle.walker.proofs.walk_task.Tie as tie

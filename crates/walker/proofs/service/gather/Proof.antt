@@ -1,7 +1,6 @@
 -- `walker::service::gather` meets its contract: each need is answered by a law of the crate's proofs.
 -- Assumes nothing.
 use Prim.Native.Nat.{_-_}
-use native.Mathlib.Omega.{arith}
 use Rattle.walker.proofs.Gathering.{Gathering, gathering-none, gathering-room, gathering-room′, gathering-fits, gathering-less, gathering-more, gathering-done}
 use borrow.Author.Needs.{needs}
 use Rattle.walker.proofs.service.gather.Statement.{statement}

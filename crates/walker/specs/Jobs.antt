@@ -1,7 +1,7 @@
 -- The tests 9, 10 and 11 apart from the table's, as the code runs them one after another.
 -- Assumes nothing.
 use mathlib.Core.Path.{_≡_}
-use mathlib.Core.Bool.{Bool, true, false, cond, _&&_}
+use mathlib.Core.Bool.{Bool, cond, _&&_}
 use mathlib.Core.List.{List}
 use Prim.Native.Nat.{ℕ, _≤_, _<_, min}
 use lib.Dec.{eqb, ltb}
@@ -12,26 +12,16 @@ use Rattle.rules.specs.Jobs.{badJobCount, firstBadJob, firstAsking}
 use Rattle.rules.specs.Piece.{piecesOf}
 use Rattle.rules.specs.Service.{units}
 use Rattle.rules.specs.Walked.{WalkRefusal, WalkAnswerAt}
+use Rattle.rules.specs.Answer.{numberOf}
 use Rattle.rules.specs.declared.Answer.{Answer}
-use Rattle.rules.specs.declared.Answer.the-variants.{Accepted, FrameLength, CoreCount, TaskCount, Mask, Budget, ShortTable, Overloaded, NotTable, JobList, NoUnits, ShortFinishes, BadLine}
+use Rattle.rules.specs.declared.Answer.the-variants.{Accepted, JobList, NoUnits, ShortFinishes}
 use Rattle.walker.specs.Served.{unitsOf}
 use Rattle.walker.specs.Least.{FinishBy}
 use Rattle.walker.specs.Step.{Counted}
 
+-- whether the answer is 0: its number decides
 abbrev pub accepts : Answer → Bool
-accepts Accepted = true
-accepts FrameLength = false
-accepts CoreCount = false
-accepts TaskCount = false
-accepts (Mask task) = false
-accepts (Budget task) = false
-accepts ShortTable = false
-accepts (Overloaded group cores) = false
-accepts NotTable = false
-accepts (JobList job) = false
-accepts (NoUnits job) = false
-accepts ShortFinishes = false
-accepts BadLine = false
+accepts a = eqb (numberOf a) 0
 
 -- answer 9
 unfoldable pub jobsAnswer : List ℕ → List ℕ → Answer

@@ -7,24 +7,11 @@ ghost use lib.ListN.{length};
 ghost use Rattle.rules.specs.Jobs.{badJob, firstBadJob, firstAsking};
 ghost use Rattle.walker.specs.Jobs.{accepts, jobsAnswer};
 
+// Whether the answer is 0: its number decides, so that a new answer changes nothing here.
 pub(crate) fn is_accepted(a: Answer) -> bool
     ensures { λ r. ⌜ r ≡ accepts a ⌝ }
 {
-    match a {
-        Answer::Accepted => true,
-        Answer::FrameLength => false,
-        Answer::CoreCount => false,
-        Answer::TaskCount => false,
-        Answer::Mask(_) => false,
-        Answer::Budget(_) => false,
-        Answer::ShortTable => false,
-        Answer::Overloaded { group: _, cores: _ } => false,
-        Answer::NotTable => false,
-        Answer::JobList(_) => false,
-        Answer::NoUnits(_) => false,
-        Answer::ShortFinishes => false,
-        Answer::BadLine => false,
-    }
+    rules::number(a) == 0
 }
 
 // "a release below the one before it, a release above the limit or units above the limit"

@@ -1,6 +1,6 @@
 // A cycle in a graph of units in which every vertex that is still there has two links: a way from task to core to task that never turns
 // back comes to a vertex again, since there are at most sixteen cores.
-use super::peel::Gone;
+use crate::peel::Gone;
 use sets::core_in;
 use sets::task_in;
 ghost use mathlib.Core.Path.{_≡_};

@@ -1,9 +1,9 @@
 // A set that passed the tests: the greatest allocation decides between a table and the overloaded group.
-use super::flow::Filled;
-use super::flow::fill;
-use super::stub::Laid;
-use super::stub::lay_out;
-use super::unloop::unloop;
+use crate::flow::Filled;
+use crate::flow::fill;
+use crate::stub::Laid;
+use crate::stub::lay_out;
+use crate::unloop::unloop;
 use rules::Answer;
 use rules::Planned;
 ghost use Prim.Native.Nat.{_≤_};

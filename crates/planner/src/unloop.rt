@@ -1,10 +1,10 @@
 // "The allocation used must be loop-free": cycles are sought and removed until the graph of units comes apart leaf by leaf.
-use super::cycle::find_cycle;
-use super::peel::Gone;
-use super::peel::peel;
+use crate::cycle::find_cycle;
+use crate::peel::Gone;
+use crate::peel::peel;
 use sets::task_in;
-use super::shift::least;
-use super::shift::shift;
+use crate::shift::least;
+use crate::shift::shift;
 ghost use mathlib.Core.Path.{_≡_};
 ghost use Prim.Native.Nat.{ℕ, _≤_, _<_};
 ghost use lib.ListN.{length};

@@ -13,6 +13,7 @@ use Rattle.rules.specs.Sum.{sumTo, positive}
 use Rattle.rules.specs.Loops.{Cycle, LoopFree}
 use Rattle.rules.specs.Extra.{coresOf, extra}
 use Rattle.sums.proofs.Sum.{sum-cong, sum-le, sum-zero, sum-add, sum-const, sum-swap, sum-lt, positive-le, positive-of, sum-at-most-one}
+use Rattle.sums.proofs.Order.{zero-of}
 use Rattle.forest.specs.Peeled.{Peeled}
 
 -- where a function is least
@@ -187,9 +188,6 @@ module _ (n m : ℕ) (x : ℕ → ℕ → ℕ) (p : Peeled n m x) (g h : ℕ →
         | no s ↦ ap (λ (v : ℕ). g i * v * positive (x i j) * above (p .taskRank i) (p .coreRank j)) (zero-of s) ∙ gone (g i) (positive (x i j)) (above (p .taskRank i) (p .coreRank j))
       ])
     where
-      zero-of : {a : ℕ} → (0 < a → ⊥) → a ≡ 0
-      zero-of s = omega arith
-
       gone : (a b c : ℕ) → a * 0 * b * c ≡ 0
       gone a b c = simp (mul-zero, zero-mul)
 
@@ -215,9 +213,6 @@ module _ (n m : ℕ) (x : ℕ → ℕ → ℕ) (p : Peeled n m x) (g h : ℕ →
             ]
       ]
     where
-      zero-of : {a : ℕ} → (0 < a → ⊥) → a ≡ 0
-      zero-of s = omega arith
-
       none : (a b c d : ℕ) → a * b * 0 ≡ a * b * 0 * c + b * a * 0 * d
       none a b c d = simp (mul-zero, zero-mul)
 
@@ -332,6 +327,3 @@ extra-below-cores {n} {m} {x} p some =
 
             nothing : (a : ℕ) → 0 * 1 * a ≡ 0
             nothing a = omega arith
-
-            zero-of : {a : ℕ} → (0 < a → ⊥) → a ≡ 0
-            zero-of s = omega arith

@@ -17,7 +17,7 @@ use Rattle.rules.specs.Layout.{Walk, stretch}
 use Rattle.rules.specs.Table.{cut, piecesOn, coreTo, coresTo}
 use Rattle.rules.specs.Service.{covers, covered, unit, units}
 use Rattle.sums.proofs.Sum.{sum-cong, sum-zero, sum-add}
-use Rattle.stretches.proofs.Reaching.{zero-of}
+use Rattle.sums.proofs.Order.{zero-of}
 use Rattle.stretches.proofs.PieceLists.{Every, Pairs, total, total-append, total-insert-all}
 use Rattle.frames.proofs.Parts.{Clear}
 use Rattle.stretches.proofs.Cuts.{cut-fits, cut-crosses, pieces-none, pieces-some}

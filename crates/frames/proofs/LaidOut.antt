@@ -16,8 +16,9 @@ use Rattle.sums.proofs.Sum.{put-same, put-other, sum-le, sum-zero, sum-put, sum
 use Rattle.forest.specs.Peeled.{Peeled}
 use Rattle.forest.proofs.Forest.{left-pos, right-pos}
 use Rattle.sums.proofs.Lowest.{lowest-hit, lowest-none}
-use Rattle.stretches.proofs.Reaching.{same-refl, zero-of, meet-none, meet-old, meet-fresh}
-use Rattle.frames.proofs.Growing.{Laid, Kept, kept-trans, Growing, newTasks, newCores, laid-kept, after-visited, after-kept, after-met-more, after-met-here, after-growing}
+use Rattle.sums.proofs.Order.{zero-of}
+use Rattle.stretches.proofs.Reaching.{same-refl, meet-none, meet-old, meet-fresh}
+use Rattle.frames.proofs.ReachedOnce.{Laid, Kept, kept-trans, Growing, newTasks, newCores, laid-kept, after-visited, after-kept, after-met-more, after-met-here, after-growing}
 
 module _ (n m : ℕ) (x : ℕ → ℕ → ℕ) where
   -- a part of a visit

@@ -1,7 +1,7 @@
 pub mod Budgets
 pub mod Counts
 pub mod FrameTables
-pub mod Growing
 pub mod LaidOut
 pub mod NoTable
 pub mod Parts
+pub mod ReachedOnce

@@ -12,8 +12,8 @@ use Rattle.rules.specs.Piece.{Piece}
 use Rattle.rules.specs.Layout.{Walk, ahead, stretch}
 use Rattle.rules.specs.Table.{cut, piecesOn, coreTo, coresTo}
 use Rattle.sums.proofs.Sum.{sum-term}
-use Rattle.stretches.proofs.Reaching.{zero-of}
-use Rattle.frames.proofs.Growing.{Laid}
+use Rattle.sums.proofs.Order.{zero-of}
+use Rattle.frames.proofs.ReachedOnce.{Laid}
 use Rattle.stretches.proofs.Ahead.{ahead-first, ahead-ends, ahead-apart, apart-in-frame}
 use Rattle.stretches.proofs.Readings.{Disjoint}
 use Rattle.stretches.proofs.Cuts.{cut-fits, cut-crosses, pieces-none, pieces-some}

@@ -14,9 +14,10 @@ use Rattle.rules.specs.Sum.{sumTo, put}
 use Rattle.rules.specs.Sets.{has, union}
 use Rattle.rules.specs.Allocation.{Allocation}
 use Rattle.rules.specs.Excess.{groupBudget, capacity, groupCapacity, Exceeds, Overload}
+use Rattle.sums.proofs.Order.{zero-of}
 use Rattle.sums.proofs.Sum.{sum-but-one, put-same, put-other, sum-put, sum-cong, sum-le, sum-zero, sum-add, sum-term, sum-some}
 use Rattle.sums.proofs.Sets.{has-lt, has-zero, has-none, has-or, has-and, with-same, with-other, with-lt, union-has, union-from}
-use Rattle.overload.proofs.Verdict.{part-in, part-out, allocation-fits-every-group}
+use Rattle.overload.proofs.NoRoom.{part-in, part-out, allocation-fits-every-group}
 
 -- a bounded search, where each number has one of two properties
 find-first : (P Q : ℕ → Type 0) → ((g : ℕ) → P g ⊎ Q g) → (k : ℕ) → ((g : ℕ) → g < k → P g) ⊎ ((g : ℕ) × (g < k) × Q g)
@@ -304,15 +305,12 @@ module _ (n m : ℕ) (mask : ℕ → ℕ) where
               | yes e ↦
                   elim (decLt 0 (limit j)) [
                     | yes p ↦ le-of-eq (part-in (union n mask (bitOr g (2 ^ i))) j (limit j) e ∙ sym (part-in (union n mask g) j (limit j) (from-old j l p e)))
-                    | no z ↦ none (part-in (union n mask (bitOr g (2 ^ i))) j (limit j) e ∙ nil z)
+                    | no z ↦ none (part-in (union n mask (bitOr g (2 ^ i))) j (limit j) e ∙ zero-of z)
                   ]
             ]
           where
             none : {a b : ℕ} → a ≡ 0 → a ≤ b
             none e = omega arith
-
-            nil : {v : ℕ} → (0 < v → ⊥) → v ≡ 0
-            nil z = omega arith
 
         clash : {s t u v : ℕ} → s ≤ t → u ≡ v → s ≡ u + budget i → t ≤ v → ⊥
         clash p q r w = omega arith

@@ -1,10 +1,9 @@
 -- Laws for the code that adds up a group's budgets and its cores' capacity.
 -- Assumes nothing.
-use mathlib.Core.Path.{_≡_, refl, sym, _∙_, ap, ap₂}
+use mathlib.Core.Path.{_≡_, sym, _∙_, ap, ap₂}
 use mathlib.Core.List.{List}
-use Prim.Native.Nat.{ℕ, min, _+_, _*_, _-_, _^_, _≤_, _<_}
+use Prim.Native.Nat.{ℕ, min, _*_, _-_, _^_, _≤_, _<_}
 use native.Mathlib.Nat.{mul-le-mul-left, mul-le-mul-right, mul-comm, lt-of-le-of-lt, le-trans, le-of-eq, one-mul, zero-mul, le-antisymm}
-use native.Mathlib.Numerals.{add-one}
 use native.Mathlib.Decide.{decLe}
 use native.Mathlib.Omega.{arith}
 use lib.ListN.{length, getD}
@@ -22,14 +21,9 @@ part-small a b h l = lt-of-le-of-lt (le-trans (mul-le-mul-right b (le-one h)) (l
     le-one : {a : ℕ} → a < 2 → a ≤ 1
     le-one h = omega arith
 
-pub group-none : (l : List ℕ) (g : ℕ) → 0 ≡ sumTo 0 (λ k. has g k * at l k)
-unfolding sumTo
-group-none l g = refl
-
-pub group-more : (l : List ℕ) (g i v b w : ℕ) → v ≡ sumTo i (λ k. has g k * at l k) → b ≡ has g i → w ≡ b * getD l i 0
-    → v + w ≡ sumTo (i + 1) (λ k. has g k * at l k)
-unfolding sumTo
-group-more l g i v b w e f h = rw (add-one i) (ap₂ _+_ e (h ∙ ap (λ (k : ℕ). k * getD l i 0) f))
+-- what a task adds to the sum
+pub member-part : (l : List ℕ) (g i b w : ℕ) → b ≡ has g i → w ≡ b * getD l i 0 → w ≡ has g i * at l i
+member-part l g i b w e f = f ∙ ap (λ (k : ℕ). k * getD l i 0) e
 
 -- a group below 2^w names no task from w on, so the sum up to there is the whole
 sum-named : (w n g : ℕ) (f : ℕ → ℕ) → g < 2 ^ w → sumTo (min n w) (λ k. has g k * f k) ≡ sumTo n (λ k. has g k * f k)

@@ -1,5 +1,5 @@
-pub mod Collected
 pub mod Exists
 pub mod GroupSum
+pub mod NoRoom
+pub mod NoZero
 pub mod Unique
-pub mod Verdict

@@ -1,1 +1,1 @@
-pub mod Flow
+pub mod Stuck

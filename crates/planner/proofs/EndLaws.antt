@@ -12,10 +12,10 @@ use Rattle.rules.specs.Excess.{groupBudget, capacity}
 use Rattle.sums.proofs.Sum.{sum-split, sum-zero}
 use Rattle.sums.proofs.Sets.{has-above, has-none}
 use Rattle.stretches.specs.Cell.{cell}
-use Rattle.overload.specs.Flow.{Partial, Stuck}
+use Rattle.overload.specs.Stuck.{Partial, Stuck}
 use Rattle.planner.specs.Fill.{Filling}
 use Rattle.planner.specs.Filled.{WholeBy, ShortBy}
-use Rattle.overload.proofs.Verdict.{part-out, found-cores, found-excess, found-exceeds, found-smallest, found-budgets, nothing-lacks}
+use Rattle.overload.proofs.NoRoom.{part-out, found-cores, found-excess, found-exceeds, found-smallest, found-budgets, nothing-lacks}
 
 -- cores at or above m add nothing
 pub capacity-all : (m c : ℕ) (limit : ℕ → ℕ) → m ≤ 16 → c < 2 ^ m → capacity 16 limit c ≡ capacity m limit c

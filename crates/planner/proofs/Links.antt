@@ -2,6 +2,7 @@
 -- Assumes nothing.
 use mathlib.Core.Path.{_≡_, refl, _∙_, ap}
 use Prim.Native.Nat.{ℕ, _+_, _-_, _*_, _≤_, _<_}
+use native.Mathlib.Nat.{le-antisymm}
 use native.Mathlib.Numerals.{add-one}
 use native.Mathlib.Omega.{arith}
 use Rattle.rules.specs.Sum.{sumTo, positive}
@@ -34,7 +35,4 @@ unfolding links sumTo
 links-more j gone x i v b w p q r = rw (add-one, p, r, q)
 
 pub links-done : (j m gone : ℕ) (x : ℕ → ℕ → ℕ) (i v : ℕ) → v ≡ links j gone x i → j ≤ m → m ≤ j → v ≡ links m gone x i
-links-done j m gone x i v p q r = p ∙ ap (λ (k : ℕ). links k gone x i) (same q r)
-  where
-    same : {a b : ℕ} → a ≤ b → b ≤ a → a ≡ b
-    same q r = omega arith
+links-done j m gone x i v p q r = p ∙ ap (λ (k : ℕ). links k gone x i) (le-antisymm q r)

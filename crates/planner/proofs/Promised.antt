@@ -32,11 +32,11 @@ use Rattle.forest.proofs.Forest.{extra-below-cores}
 use Rattle.stretches.proofs.PieceLists.{every-map, every-true}
 use Rattle.frames.proofs.FrameTables.{Allowed, table-is-frame-table, pieces-at-most, budgets-exact, cores-allowed, never-two-at-once}
 use Rattle.overload.proofs.Exists.{allocation-or-overload, overloaded-exactly-without-allocation}
-use Rattle.overload.proofs.Verdict.{smallest-group-is-unique}
+use Rattle.overload.proofs.NoRoom.{smallest-group-is-unique}
 use Rattle.forest.proofs.Unlooped.{allocation-without-loops}
 use Rattle.stretches.proofs.Numbers.{pieces-of-numbers}
 use Rattle.frames.proofs.NoTable.{both-right, table-is-allocation}
-use Rattle.overload.proofs.Collected.{smallest-holds-no-zero}
+use Rattle.overload.proofs.NoZero.{smallest-holds-no-zero}
 use Rattle.tests.proofs.PassedLaws.{passed-ready}
 
 -- an allocation within the sizes, without a loop: the table that document 01 fixes for it obeys the rules

@@ -2,6 +2,7 @@
 -- Assumes nothing.
 use mathlib.Core.Path.{_≡_, sym, _∙_, subst}
 use Prim.Native.Nat.{ℕ, _+_, _-_, _^_, _≤_, _<_}
+use native.Mathlib.Nat.{le-antisymm}
 use native.Mathlib.Decide.{ℕ-discrete}
 use native.Mathlib.Omega.{arith}
 use borrow.Author.Tests.{eq-eqb, ne-eqb}
@@ -47,10 +48,7 @@ module _ (x : ℕ → ℕ → ℕ) (task core : ℕ → ℕ) (lo : ℕ) where
           ]
 
   pub least-done : (i hi d : ℕ) → i ≤ hi → hi ≤ i → Least x task core lo i d → Least x task core lo hi d
-  least-done i hi d a b s = subst (λ (k : ℕ). Least x task core lo k d) (same a b) s
-    where
-      same : {a b : ℕ} → a ≤ b → b ≤ a → a ≡ b
-      same p q = omega arith
+  least-done i hi d a b s = subst (λ (k : ℕ). Least x task core lo k d) (le-antisymm a b) s
 
 module _ (n m : ℕ) (x : ℕ → ℕ → ℕ) (task core : ℕ → ℕ) (lo hi d : ℕ) (r : ShiftReady n m x task core lo hi d) where
   pub shift-begins : Shifted n m x x task core lo hi d lo
@@ -91,10 +89,7 @@ module _ (n m : ℕ) (x : ℕ → ℕ → ℕ) (task core : ℕ → ℕ) (lo hi 
 
   module _ (i : ℕ) (y : ℕ → ℕ → ℕ) (s : Shifted n m x y task core lo hi d i) (a : i ≤ hi) (b : hi ≤ i) where
     at-end : Shifted n m x y task core lo hi d hi
-    at-end = subst (λ (k : ℕ). Shifted n m x y task core lo hi d k) (same a b) s
-      where
-        same : {a b : ℕ} → a ≤ b → b ≤ a → a ≡ b
-        same p q = omega arith
+    at-end = subst (λ (k : ℕ). Shifted n m x y task core lo hi d k) (le-antisymm a b) s
 
     pub shift-keeps : Kept n m x y
     shift-keeps = shifted-kept n m (r .cores) x task core lo hi d (r .ring) y at-end

@@ -12,7 +12,7 @@ use Rattle.rules.specs.Sets.{has}
 use Rattle.rules.specs.Plan.{at}
 use Rattle.sums.proofs.Sets.{has-none, has-below}
 use Rattle.stretches.specs.Cell.{cell}
-use Rattle.overload.specs.Flow.{Closed, Stuck}
+use Rattle.overload.specs.Stuck.{Closed, Stuck}
 use Rattle.planner.specs.declared.search.Seen.{Seen}
 use Rattle.planner.specs.Search.{Found, Swept, Sized, Sought, Way, nothing}
 use Rattle.planner.proofs.SearchLaws.{short, counted-nothing}

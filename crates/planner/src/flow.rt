@@ -8,13 +8,13 @@ ghost use Rattle.rules.specs.Plan.{at};
 ghost use Rattle.planner.specs.Fill.{Filling, FillReady, Copied};
 ghost use Rattle.planner.specs.Back.{ShiftFits, Shifted, PlaceFits, Placed, PlacedOn, Reads, backward, lacking};
 ghost use Rattle.planner.specs.Filled.{FilledBy, PassBy};
-use overload::excess;
 use crate::search::Outcome;
 use crate::search::seek;
-use sets::core_in;
 use crate::steps::least;
 use crate::steps::place;
 use crate::steps::take;
+use overload::excess;
+use sets::core_in;
 
 // All budgets have their units, or the smallest group of greatest excess lacks some, with the union of its masks.
 pub(crate) enum Filled {

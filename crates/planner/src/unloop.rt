@@ -2,9 +2,9 @@
 use crate::cycle::find_cycle;
 use crate::peel::Gone;
 use crate::peel::peel;
-use sets::task_in;
 use crate::shift::least;
 use crate::shift::shift;
+use sets::task_in;
 ghost use mathlib.Core.Path.{_≡_};
 ghost use Prim.Native.Nat.{ℕ, _≤_, _<_};
 ghost use lib.ListN.{length};

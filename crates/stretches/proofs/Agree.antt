@@ -13,7 +13,8 @@ use Rattle.rules.specs.Layout.{Walk, ahead, stretch, reachOne, reach, meetMark,
 use Rattle.rules.specs.Table.{cut, insertAll, piecesOn, coreTo, coresTo}
 use Rattle.sums.proofs.Sum.{sum-cong}
 use Rattle.stretches.specs.Small.{Small, Bounded}
-use Rattle.stretches.proofs.Reaching.{one-none, one-here, one-moved, meet-none, meet-old, meet-fresh, zero-of}
+use Rattle.sums.proofs.Order.{zero-of}
+use Rattle.stretches.proofs.Reaching.{one-none, one-here, one-moved, meet-none, meet-old, meet-fresh}
 use Rattle.stretches.proofs.Visits.{next-core-below}
 use Rattle.stretches.proofs.Bounds.{bounded-meet, bounded-mark, bounded-visits}
 use Rattle.stretches.proofs.Cuts.{pieces-none, pieces-some}

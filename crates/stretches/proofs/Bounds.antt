@@ -7,7 +7,8 @@ use native.Mathlib.Decide.{ℕ-discrete, decLt}
 use native.Mathlib.Omega.{arith}
 use Rattle.rules.specs.Layout.{Walk, stretch, begun, reach, meetMark, meetOne, meet, visitMark, visit, nextCore, visits}
 use Rattle.stretches.specs.Small.{Small, Bounded}
-use Rattle.stretches.proofs.Reaching.{SameAt, reach-come, reach-same, meet-none, meet-old, meet-fresh, zero-of}
+use Rattle.sums.proofs.Order.{zero-of}
+use Rattle.stretches.proofs.Reaching.{SameAt, reach-come, reach-same, meet-none, meet-old, meet-fresh}
 use Rattle.stretches.proofs.Ahead.{ahead-ends}
 use Rattle.stretches.proofs.Visits.{next-core-below}
 

@@ -6,7 +6,7 @@ use Prim.Native.Nat.{ℕ, _+_, _-_, _%_, _≤_, _<_}
 use borrow.Author.Tests.{le-leb, lt-leb}
 use Rattle.rules.specs.Layout.{Walk, stretch}
 use Rattle.rules.specs.Table.{cut, piecesOn}
-use Rattle.stretches.proofs.Reaching.{pred-of}
+use Rattle.sums.proofs.Order.{pred-of}
 
 pub cut-fits : (F j t s len : ℕ) → s + len ≤ F → cut F j t s len ≡ record { core = j; task = t; start = s; len = len } ∷ []
 unfolding cut

@@ -17,7 +17,7 @@ use Rattle.rules.specs.Piece.{Piece}
 use Rattle.rules.specs.Layout.{Walk, stretch}
 use Rattle.rules.specs.Table.{insertAll, piecesOn, coreTo, coresTo}
 use Rattle.sums.proofs.Sum.{sum-mono, positive-le, positive-of, sum-at-most-one}
-use Rattle.stretches.proofs.Reaching.{zero-of}
+use Rattle.sums.proofs.Order.{zero-of}
 use Rattle.stretches.proofs.PieceLists.{total-insert-all, total-length}
 use Rattle.stretches.proofs.Cuts.{cut-fits, cut-crosses, pieces-none, pieces-some}
 use Rattle.stretches.proofs.Ahead.{ahead-ends, ahead-apart}

@@ -9,6 +9,7 @@ use borrow.Author.Tests.{eq-eqb, ne-eqb}
 use Rattle.rules.specs.Sum.{put}
 use Rattle.rules.specs.Layout.{Walk, ahead, stretch, reachOne, reach, meetMark, meetOne}
 use Rattle.sums.proofs.Sum.{put-same, put-other}
+use Rattle.sums.proofs.Order.{zero-of, pred-of}
 
 -- a core's entries are the same in both walks
 pub record SameAt (v w : Walk) (k : ℕ) : Type 0 where
@@ -27,13 +28,6 @@ pub record Come (x : ℕ → ℕ → ℕ) (t j s k : ℕ) (v : Walk) : Type 0 wh
   pub reached : v .reached k ≡ 1
   pub start : v .start k ≡ s + ahead (suc j) (x t) k
   pub first : v .first k ≡ suc t
-
-pub pred-of : (a : ℕ) → 0 < a → (b : ℕ) × (a ≡ suc b)
-pred-of zero h = absurd (not-suc-le-zero h)
-pred-of (suc b) h = (b, refl)
-
-pub zero-of : {a : ℕ} → (0 < a → ⊥) → a ≡ 0
-zero-of s = omega arith
 
 module _ (n m : ℕ) (x : ℕ → ℕ → ℕ) (t j s : ℕ) where
   pub one-none : (k : ℕ) (w : Walk) → x t k ≡ 0 → reachOne n m x t j s k w ≡ w

@@ -54,6 +54,10 @@ module _ (F m : ℕ) (p : Piece) where
   unfolding sound
   reads-sound s = simp (lt-ltb _ _ (s .core), lt-ltb _ _ (s .task), le-leb _ _ (s .len), le-leb _ _ (s .end))
 
+flip : (o : Bool) → not o ≡ true → o ≡ false
+flip true h = sym h
+flip false h = refl
+
 module _ (p q : Piece) where
   -- no instant in common, by the rules' test
   pub overlap-reads : overlap p q ≡ false → Disjoint p q
@@ -77,10 +81,6 @@ module _ (p q : Piece) where
   pub core-apart-reads : coreApart p q ≡ true → p .core ≡ q .core → Disjoint p q
   unfolding coreApart
   core-apart-reads e c = overlap-reads (flip (overlap p q) (rw (eq-eqb _ _ c) at e))
-    where
-      flip : (o : Bool) → not o ≡ true → o ≡ false
-      flip true h = sym h
-      flip false h = refl
 
   pub reads-core-apart : (p .core ≡ q .core → Disjoint p q) → coreApart p q ≡ true
   unfolding coreApart
@@ -90,10 +90,6 @@ module _ (p q : Piece) where
   pub task-apart-reads : taskApart p q ≡ true → p .task ≡ q .task → Disjoint p q
   unfolding taskApart
   task-apart-reads e c = overlap-reads (flip (overlap p q) (rw (eq-eqb _ _ c) at e))
-    where
-      flip : (o : Bool) → not o ≡ true → o ≡ false
-      flip true h = sym h
-      flip false h = refl
 
   pub reads-task-apart : (p .task ≡ q .task → Disjoint p q) → taskApart p q ≡ true
   unfolding taskApart

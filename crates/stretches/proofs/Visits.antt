@@ -11,7 +11,8 @@ use Rattle.rules.specs.Sum.{sumTo, put, lowest}
 use Rattle.rules.specs.Layout.{Walk, stretch, begun, meetMark, meetOne, meet, visitMark, visit, waiting, unvisited, nextCore, visits}
 use Rattle.sums.proofs.Sum.{sum-put, sum-le, sum-zero, sum-const}
 use Rattle.sums.proofs.Lowest.{lowest-none}
-use Rattle.stretches.proofs.Reaching.{reach-rest, meet-none, meet-old, meet-fresh, zero-of}
+use Rattle.sums.proofs.Order.{zero-of}
+use Rattle.stretches.proofs.Reaching.{reach-rest, meet-none, meet-old, meet-fresh}
 
 module _ (n m : ℕ) (x : ℕ → ℕ → ℕ) where
   meet-one-visited : (j t : ℕ) (w : Walk) → meetOne n m x j t w .visited ≡ w .visited
@@ -60,11 +61,11 @@ module _ (n m : ℕ) (x : ℕ → ℕ → ℕ) where
   visits-counted zero l = omega (arith, sum-zero m {f = λ k. 0} (λ k b. refl))
   visits-counted (suc c) l =
       rw (visit-visited (nextCore n m x (visits n m x c)) (visits n m x c)) (
-        omega (
-          arith,
-          visits-counted c (omega arith),
-          sum-put m (nextCore n m x (visits n m x c)) 1 (visits n m x c .visited) (next-below (visits n m x c) (omega (arith, visits-counted c (omega arith)))),
-        )
+      omega (
+        arith,
+        visits-counted c (omega arith),
+        sum-put m (nextCore n m x (visits n m x c)) 1 (visits n m x c .visited) (next-below (visits n m x c) (omega (arith, visits-counted c (omega arith)))),
+      )
       )
 
   pub next-core-below : (c : ℕ) → c < m → nextCore n m x (visits n m x c) < m

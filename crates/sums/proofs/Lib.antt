@@ -1,6 +1,7 @@
 pub mod Both
 pub mod Inserted
 pub mod Lowest
+pub mod Order
 pub mod Pigeon
 pub mod Sets
 pub mod Sum

@@ -2,19 +2,13 @@
 -- Assumes nothing.
 use mathlib.Core.Path.{_≡_, refl, sym, _∙_, ap}
 use Prim.Native.Nat.{ℕ, zero, suc, _+_, _≤_, _<_}
-use native.Mathlib.Nat.{not-suc-le-zero}
+use native.Mathlib.Nat.{not-suc-le-zero, le-antisymm}
 use native.Mathlib.Numerals.{add-one}
 use native.Mathlib.Decide.{ℕ-discrete, decLt}
 use native.Mathlib.Omega.{arith}
 use borrow.Author.Tests.{lt-ltb, le-ltb}
 use Rattle.rules.specs.Sum.{lowest}
-
-pred-of : (a : ℕ) → 0 < a → (b : ℕ) × (a ≡ suc b)
-pred-of zero h = absurd (not-suc-le-zero h)
-pred-of (suc b) h = (b, refl)
-
-zero-of : {a : ℕ} → (0 < a → ⊥) → a ≡ 0
-zero-of s = omega arith
+use Rattle.sums.proofs.Order.{zero-of, pred-of}
 
 -- one number more: found before, found here, not found
 keep-low : (n : ℕ) (f : ℕ → ℕ) → lowest n f < n → lowest (suc n) f ≡ lowest n f
@@ -94,7 +88,4 @@ module _ (f : ℕ → ℕ) where
   lowest-found n j l e h = let s = hit-low j f (omega arith) h in sym (lowest-stays n (suc j) l (omega arith) ∙ s)
 
   pub lowest-ended : (n j : ℕ) → j ≤ n → n ≤ j → lowest j f ≡ j → j ≡ lowest n f
-  lowest-ended n j a b e = sym e ∙ ap (λ (k : ℕ). lowest k f) (meets a b)
-    where
-      meets : {k m : ℕ} → k ≤ m → m ≤ k → k ≡ m
-      meets a b = omega arith
+  lowest-ended n j a b e = sym e ∙ ap (λ (k : ℕ). lowest k f) (le-antisymm a b)

@@ -3,7 +3,7 @@
 use mathlib.Core.Path.{_≡_, refl, _∙_, ap}
 use mathlib.Core.Bool.{cond}
 use Prim.Native.Nat.{ℕ, suc, _+_, _≤_, _<_}
-use native.Mathlib.Nat.{le-refl}
+use native.Mathlib.Nat.{le-refl, le-antisymm}
 use native.Mathlib.Numerals.{add-one}
 use native.Mathlib.Decide.{ℕ-discrete}
 use native.Mathlib.Omega.{arith}
@@ -24,10 +24,7 @@ module _ (f : ℕ → ℕ) where
   sum-more v i w e g = simp (add-one, e, g)
 
   pub sum-done : (v i n : ℕ) → v ≡ sumTo i f → i ≤ n → n ≤ i → v ≡ sumTo n f
-  sum-done v i n e a b = e ∙ ap (λ (k : ℕ). sumTo k f) (same a b)
-    where
-      same : {i n : ℕ} → i ≤ n → n ≤ i → i ≡ n
-      same a b = omega arith
+  sum-done v i n e a b = e ∙ ap (λ (k : ℕ). sumTo k f) (le-antisymm a b)
 
   put-under : (skip i : ℕ) → put skip 0 f i ≤ f i
   put-under skip i =

@@ -4,7 +4,7 @@ use mathlib.Core.Path.{_≡_, sym}
 use mathlib.Core.Bool.{Bool, true, false, not, _&&_}
 use mathlib.Core.List.{List}
 use Prim.Native.Nat.{ℕ, _+_, _/_, _%_, _≤_, _<_}
-use native.Mathlib.Omega.{arith}
+use native.Mathlib.Nat.{le-antisymm}
 use lib.ListN.{length}
 use borrow.Author.Tests.{lt-ltb, le-ltb, le-leb, lt-leb, eq-eqb, ne-eqb, not-true, not-false}
 use Rattle.rules.specs.Piece.{Piece, pieceAt, wholePieces}
@@ -34,10 +34,7 @@ module _ (l : List ℕ) (k : ℕ) where
 
   pub follows-done : (j : ℕ) → j ≤ k → k ≤ j → followed j → true ≡ follows l k
   unfolding follows
-  follows-done j a b h = sym (rw (same a b) at h)
-    where
-      same : {a b : ℕ} → a ≤ b → b ≤ a → a ≡ b
-      same p q = omega arith
+  follows-done j a b h = sym (rw (le-antisymm a b) at h)
 
 module _ (F m : ℕ) (l : List ℕ) where
   module _ (k : ℕ) (p : Piece) (s : Bool) (e : s ≡ sound F m p) (at-k : p ≡ pieceAt l k) where
@@ -70,10 +67,7 @@ module _ (F m : ℕ) (l : List ℕ) where
 
   pub table-done : (i : ℕ) → length l % 4 ≡ 0 → length l / 4 ≤ 95 → i ≤ length l / 4 → length l / 4 ≤ i → passes F m l i ≡ true → true ≡ frameTable F m l
   table-done i e g a b h =
-      rw (frame-table-passes l F m, eq-eqb _ _ e, le-leb _ _ g) (sym (rw (same a b) at h))
-    where
-      same : {a b : ℕ} → a ≤ b → b ≤ a → a ≡ b
-      same p q = omega arith
+      rw (frame-table-passes l F m, eq-eqb _ _ e, le-leb _ _ g) (sym (rw (le-antisymm a b) at h))
 
   pub answer-frame-zero : F ≡ 0 → FrameLength ≡ checkAnswer F m l
   unfolding checkAnswer badFrame

@@ -4,8 +4,8 @@ use mathlib.Core.Path.{_≡_, _∙_, ap}
 use mathlib.Core.Bool.{Bool, true, false}
 use mathlib.Core.List.{List}
 use Prim.Native.Nat.{ℕ, _+_, _/_, _≤_, _<_}
+use native.Mathlib.Nat.{le-antisymm}
 use native.Mathlib.Numerals.{add-one}
-use native.Mathlib.Omega.{arith}
 use lib.Dec.{ltb}
 use lib.ListN.{length}
 use borrow.Author.Tests.{le-leb, lt-leb, eq-eqb, ne-eqb}
@@ -62,7 +62,4 @@ module _ (l : List ℕ) (task from : ℕ) where
 
   pub next-done : (best k : ℕ) → best ≡ nextTo l task from k → k ≤ length l / 4 → length l / 4 ≤ k → best ≡ nextPiece l task from
   unfolding nextPiece
-  next-done best k e a b = e ∙ ap (nextTo l task from) (same a b)
-    where
-      same : {a b : ℕ} → a ≤ b → b ≤ a → a ≡ b
-      same p q = omega arith
+  next-done best k e a b = e ∙ ap (nextTo l task from) (le-antisymm a b)

@@ -4,6 +4,7 @@ use mathlib.Core.Path.{_≡_, refl, sym, _∙_, ap}
 use mathlib.Core.Bool.{Bool, true, false, cond, not, _||_, or-true, or-false, true≢false}
 use mathlib.Core.List.{List}
 use Prim.Native.Nat.{ℕ, zero, suc, _+_, _-_, _≤_, _<_}
+use native.Mathlib.Nat.{le-antisymm}
 use native.Mathlib.Decide.{decLe}
 use native.Mathlib.Omega.{arith}
 use lib.Dec.{eqb, ltb}
@@ -73,10 +74,7 @@ module _ (releases jobs : List ℕ) where
 
   pub passed-all : (k : ℕ) → Passed k → k ≤ length releases → length releases ≤ k → k ≡ firstBadJob releases jobs
   unfolding firstBadJob
-  passed-all k p a b = sym p ∙ ap (λ (n : ℕ). lowest n (badJob releases jobs)) (same a b)
-    where
-      same : {a b : ℕ} → a ≤ b → b ≤ a → a ≡ b
-      same p q = omega arith
+  passed-all k p a b = sym p ∙ ap (λ (n : ℕ). lowest n (badJob releases jobs)) (le-antisymm a b)
 
 module _ (jobs : List ℕ) where
   -- the jobs below k ask nothing
@@ -95,10 +93,7 @@ module _ (jobs : List ℕ) where
 
   pub idle-all : (k : ℕ) → Idle k → k ≤ length jobs → length jobs ≤ k → k ≡ firstAsking jobs
   unfolding firstAsking
-  idle-all k p a b = sym p ∙ ap (λ (n : ℕ). lowest n (λ i. getD jobs i 0)) (same a b)
-    where
-      same : {a b : ℕ} → a ≤ b → b ≤ a → a ≡ b
-      same p q = omega arith
+  idle-all k p a b = sym p ∙ ap (λ (n : ℕ). lowest n (λ i. getD jobs i 0)) (le-antisymm a b)
 
   pub nothing-asked : length jobs ≤ firstAsking jobs → (k : ℕ) → k < length jobs → getD jobs k 0 ≡ 0
   unfolding firstAsking

@@ -3,6 +3,7 @@
 use mathlib.Core.Path.{_≡_, refl, _∙_, ap, ap₂}
 use mathlib.Core.List.{List}
 use Prim.Native.Nat.{ℕ, _+_, _-_, _*_, _^_, _≤_, _<_, min}
+use native.Mathlib.Nat.{le-antisymm}
 use native.Mathlib.Decide.{decLt}
 use native.Mathlib.Numerals.{add-one}
 use native.Mathlib.Omega.{arith}
@@ -33,10 +34,7 @@ module _ (starts lens : List ℕ) (r : ℕ) where
       record { below = omega arith; is = rw (add-one i) (ap₂ _+_ (s .is) (e .0)); small = omega (arith, s .small, e .1) }
 
   pub serving-done : (sum i : ℕ) → Serving sum i → length starts ≤ i → sum ≡ servedTo starts lens (length starts) r
-  serving-done sum i s h = s .is ∙ ap (λ (c : ℕ). servedTo starts lens c r) (same (s .below) h)
-    where
-      same : {a b : ℕ} → a ≤ b → b ≤ a → a ≡ b
-      same p q = omega arith
+  serving-done sum i s h = s .is ∙ ap (λ (c : ℕ). servedTo starts lens c r) (le-antisymm (s .below) h)
 
 module _ (F : ℕ) (starts lens : List ℕ) (k : ℕ) where
   -- unit k is the `left`-th from stretch i on, both counted from 0

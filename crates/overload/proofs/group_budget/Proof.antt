@@ -5,7 +5,8 @@ use native.Mathlib.Omega.{arith}
 use Rattle.rules.specs.Sum.{sumTo}
 use Rattle.rules.specs.Sets.{has}
 use Rattle.rules.specs.Plan.{at}
-use Rattle.overload.proofs.GroupSum.{group-none, group-more, group-done}
+use Rattle.sums.proofs.SumLoops.{sum-none, sum-more}
+use Rattle.overload.proofs.GroupSum.{member-part, group-done}
 use borrow.Author.Needs.{needs}
 use Rattle.overload.proofs.group_budget.Statement.{statement}
 use Rattle.overload.proofs.group_budget.Tie as tie
@@ -20,7 +21,7 @@ named-requires : tie.Need-named-requires Inv-loop μ-loop
 named-requires c κs = search needs
 
 loop-holds : tie.Need-loop-holds Inv-loop μ-loop
-loop-holds c = search (group-none, needs)
+loop-holds c = search (sum-none, needs)
 
 task-in-requires : tie.Need-task-in-requires Inv-loop μ-loop
 task-in-requires c κs = search needs
@@ -46,8 +47,7 @@ loop-less c = search needs
 loop-again : tie.Need-loop-again Inv-loop μ-loop
 loop-again c = (
   search needs,
-  group-more (c .before .before .before .before .before .before .before .args .budgets .now) _ _ _ _ _ (c .before .before .before .before .loop .inv .1)
-      (c .before .before .task-in .ensures .0) (c .part .ensures .0),
+  sum-more _ _ _ _ (c .before .before .before .before .loop .inv .1) (member-part (c .before .before .before .before .before .before .before .args .budgets .now) _ _ _ _ (c .before .before .task-in .ensures .0) (c .part .ensures .0)),
   omega (arith, c .part .ensures .1),
 )
 

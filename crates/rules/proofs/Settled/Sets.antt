@@ -2,8 +2,8 @@
 -- Assumes nothing.
 use mathlib.Core.Path.{_≡_, refl, sym, _∙_, ap, subst, subst⁻¹}
 use mathlib.Core.List.{List, [], _++_}
-use Prim.Native.Nat.{ℕ, _*_, _^_, _≤_, _<_}
-use native.Mathlib.Omega.{arith}
+use Prim.Native.Nat.{ℕ, _*_, _^_, _<_}
+use native.Mathlib.Nat.{le-antisymm}
 use lib.ListN.{length, drop}
 use Rattle.rules.specs.Sets.{has, union}
 use Rattle.rules.specs.Allocation.{Allocation}
@@ -79,10 +79,7 @@ module _ (F m : ℕ) (budgets masks : List ℕ) where
     one-group : (h : ℕ) → Smallest (length budgets) m (limit F m budgets masks) (at budgets) (at masks) h → h ≡ g
     one-group h s =
         same h (s .tasks)
-        (λ i l. both (s .smallest g (smallest .tasks) (smallest .greatest h (s .tasks)) i l) (smallest .smallest h (s .tasks) (s .greatest g (smallest .tasks)) i l))
-      where
-        both : {a b : ℕ} → a ≤ b → b ≤ a → a ≡ b
-        both p q = omega arith
+        (λ i l. le-antisymm (s .smallest g (smallest .tasks) (smallest .greatest h (s .tasks)) i l) (smallest .smallest h (s .tasks) (s .greatest g (smallest .tasks)) i l))
 
     by-group : (before : List ℕ) (r : Planned) (after : List ℕ) (h : ℕ) → OverloadedBy F m budgets masks before r after h → Shown before r after
     unfolding Shown

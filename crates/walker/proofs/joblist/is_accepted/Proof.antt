@@ -5,8 +5,10 @@ use lib.Dec.{eqb}
 use borrow.Author.Needs.{needs}
 use Rattle.walker.proofs.joblist.is_accepted.Statement.{statement}
 use Rattle.walker.proofs.joblist.is_accepted.Tie as tie
+
 number-requires : tie.Need-number-requires
 number-requires c κs = search needs
+
 returns : tie.Need-returns
 returns c = ap (λ (k : ℕ). eqb k 0) (c .number .ensures)
 

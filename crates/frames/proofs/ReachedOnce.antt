@@ -11,7 +11,8 @@ use Rattle.rules.specs.Layout.{Walk, ahead, stretch, reach, meetMark}
 use Rattle.sums.proofs.Sum.{put-same, put-other, sum-cong, sum-le, sum-zero, sum-add, sum-put, sum-term, sum-lt, positive-of}
 use Rattle.forest.specs.Peeled.{Peeled}
 use Rattle.forest.proofs.Forest.{edges, sparse}
-use Rattle.stretches.proofs.Reaching.{SameAt, same-trans, Come, zero-of, reach-rest, reach-come, reach-same}
+use Rattle.sums.proofs.Order.{zero-of}
+use Rattle.stretches.proofs.Reaching.{SameAt, same-trans, Come, reach-rest, reach-come, reach-same}
 
 -- terms at most: the sum grows by at least as much as one term
 pub sum-gain : (n k : ℕ) (f g : ℕ → ℕ) → ((i : ℕ) → i < n → f i ≤ g i) → k < n → sumTo n f + g k ≤ sumTo n g + f k

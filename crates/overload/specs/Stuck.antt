@@ -1,5 +1,5 @@
 -- The search for an allocation: what is kept at every moment, and what stands when nothing with room is left to reach.
--- These make the proofs easy and need no belief; proofs/Verdict.antt ties them to the rules.
+-- These make the proofs easy and need no belief; proofs/NoRoom.antt ties them to the rules.
 -- Assumes nothing.
 use mathlib.Core.Path.{_≡_}
 use Prim.Native.Nat.{ℕ, _+_, _^_, _<_}

@@ -10,9 +10,10 @@ use Rattle.rules.specs.Sum.{sumTo}
 use Rattle.rules.specs.Sets.{has, union}
 use Rattle.rules.specs.Allocation.{Allocation}
 use Rattle.rules.specs.Excess.{groupBudget, capacity, groupCapacity, NoMore, Exceeds, Smallest}
+use Rattle.sums.proofs.Order.{zero-of}
 use Rattle.sums.proofs.Sum.{sum-cong, sum-le, sum-zero, sum-add, sum-scale, sum-swap, sum-term, sum-tight}
 use Rattle.sums.proofs.Sets.{has-zero, has-one, has-le-one, has-ext, union-has, union-from, union-lt}
-use Rattle.overload.specs.Flow.{Partial, Closed, Stuck}
+use Rattle.overload.specs.Stuck.{Partial, Closed, Stuck}
 
 -- a member's part is the whole, any other's is nothing
 pub part-le : (s i v : ℕ) → has s i * v ≤ v
@@ -24,15 +25,12 @@ part-in s i v e = ap (λ (k : ℕ). k * v) e ∙ one-mul v
 pub part-out : (s i v : ℕ) → has s i ≡ 0 → has s i * v ≡ 0
 part-out s i v e = ap (λ (k : ℕ). k * v) e ∙ zero-mul v
 
-nil : {v : ℕ} → (0 < v → ⊥) → v ≡ 0
-nil z = omega arith
-
 -- the part of what a member alone has is the whole
 part-all : (s i v : ℕ) → (0 < v → has s i ≡ 1) → has s i * v ≡ v
 part-all s i v f =
     elim (decLt 0 v) [
       | yes u ↦ part-in s i v (f u)
-      | no z ↦ ap (λ (k : ℕ). has s i * k) (nil z) ∙ mul-zero (has s i) ∙ sym (nil z)
+      | no z ↦ ap (λ (k : ℕ). has s i * k) (zero-of z) ∙ mul-zero (has s i) ∙ sym (zero-of z)
     ]
 
 module _ {n m : ℕ} {limit budget mask : ℕ → ℕ} {x : ℕ → ℕ → ℕ} {left room : ℕ → ℕ} (p : Partial n m limit budget mask x left room) where
@@ -65,7 +63,7 @@ module _ {n m : ℕ} {limit budget mask : ℕ → ℕ} {x : ℕ → ℕ → ℕ}
       sum-zero n
       (λ i l.
       elim (ℕ-discrete (has h i) 1) [
-        | yes e ↦ part-in h i (x i j) e ∙ nil (λ u. apart z (masks i l e j k (allowed i l j k u)))
+        | yes e ↦ part-in h i (x i j) e ∙ zero-of (λ u. apart z (masks i l e j k (allowed i l j k u)))
         | no ne ↦ part-out h i (x i j) (has-zero h i ne)
       ])
     where
@@ -212,7 +210,7 @@ module _ {n m : ℕ} {limit budget mask : ℕ → ℕ} {x : ℕ → ℕ → ℕ}
     found-budgets i l e =
         elim (decLt 0 (left i)) [
           | yes u ↦ omega (arith, p .row i l)
-          | no z ↦ let r = s .touched i l e (nil z) in some (left i) (r .2) (sum-term m (r .0) (x i) (r .1)) (p .row i l)
+          | no z ↦ let r = s .touched i l e (zero-of z) in some (left i) (r .2) (sum-term m (r .0) (x i) (r .1)) (p .row i l)
         ]
       where
         some : {a b v : ℕ} (r : ℕ) → 0 < a → a ≤ b → b + r ≡ v → 0 < v

@@ -15,7 +15,7 @@ use Rattle.rules.specs.Sets.{has}
 use Rattle.rules.specs.Piece.{Piece}
 use Rattle.rules.specs.FrameTable.{every, everyTwo, sound, ordered, overlap, coreApart, taskApart, framePieces}
 use Rattle.rules.specs.Service.{covers, covered, unit, units}
-use Rattle.rules.specs.Allocation.{Allocation}
+use Rattle.rules.specs.Allocation.{limitOf, Allocation}
 use Rattle.rules.specs.Obeys.{allowed, Obeys}
 use Rattle.sums.proofs.Sum.{sum-cong, sum-zero, sum-add, sum-put, sum-put-past, sum-count}
 use Rattle.stretches.proofs.PieceLists.{Every, Pairs, every-map, total}
@@ -201,7 +201,7 @@ module _ (F n m : ℕ) (budget mask : ℕ → ℕ) (ps : List Piece) (o : Obeys 
   abbrev given : ℕ → ℕ → ℕ
   given i j = total (share i j) ps
 
-  pub table-is-allocation : Allocation n m (λ j. F) budget mask given
+  pub table-is-allocation : Allocation n m (limitOf F) budget mask given
   table-is-allocation =
       record {
         inside = λ i l j b z. total-none (share i j) ps (every-map (λ p. allowed n mask p ≡ true) (λ p. share i j p ≡ 0) ps (outside-none n mask i j z) (every-reads (allowed n mask) ps (o .on-mask)));

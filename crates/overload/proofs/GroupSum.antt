@@ -8,6 +8,7 @@ use native.Mathlib.Decide.{decLe}
 use native.Mathlib.Omega.{arith}
 use lib.ListN.{length, getD}
 use lib.Count.{ones, ones-le}
+use Rattle.rules.specs.Allocation.{limitOf}
 use Rattle.rules.specs.Sum.{sumTo}
 use Rattle.rules.specs.Sets.{has}
 use Rattle.rules.specs.Plan.{at}
@@ -45,7 +46,7 @@ unfolding groupBudget
 group-done l g i v n s c e h k = e ∙ ap (λ (n : ℕ). sumTo n (λ k. has g k * at l k)) (le-antisymm h k ∙ c) ∙ sum-named 64 (length l) g (at l) s
 
 -- the capacity of cores that all have one limit, by the count of ones
-pub capacity-ones : (F c : ℕ) → c < 2 ^ 16 → F * ones c ≡ capacity 16 (λ j. F) c
+pub capacity-ones : (F c : ℕ) → c < 2 ^ 16 → F * ones c ≡ capacity 16 (limitOf F) c
 unfolding capacity
 capacity-ones F c l =
     ap (λ (k : ℕ). F * k) (ones-has 16 c l) ∙ sym (sum-scale 16 F (has c)) ∙ sum-cong 16 (λ j k. mul-comm F (has c j))
@@ -53,10 +54,10 @@ capacity-ones F c l =
 pub room-small : (F c : ℕ) → F < 2 ^ 32 → c < 2 ^ 16 → (ones c ≤ 16) × (F * ones c ≤ F * 16)
 room-small F c h l = (ones-le 16 c l, mul-le-mul-left F (ones-le 16 c l))
 
-pub excess-some : (F c : ℕ) {need sum : ℕ} → c < 2 ^ 16 → need ≡ sum → need - F * ones c ≡ sum - capacity 16 (λ j. F) c
+pub excess-some : (F c : ℕ) {need sum : ℕ} → c < 2 ^ 16 → need ≡ sum → need - F * ones c ≡ sum - capacity 16 (limitOf F) c
 excess-some F c l e = ap₂ _-_ e (capacity-ones F c l)
 
-pub excess-none : (F c : ℕ) {need sum : ℕ} → c < 2 ^ 16 → need ≡ sum → need ≤ F * ones c → 0 ≡ sum - capacity 16 (λ j. F) c
+pub excess-none : (F c : ℕ) {need sum : ℕ} → c < 2 ^ 16 → need ≡ sum → need ≤ F * ones c → 0 ≡ sum - capacity 16 (limitOf F) c
 excess-none F c {need} l e h = none h ∙ excess-some F c l e
   where
     none : {a b : ℕ} → a ≤ b → 0 ≡ a - b

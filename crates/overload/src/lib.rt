@@ -3,6 +3,7 @@
 ghost use mathlib.Core.Path.{_≡_};
 ghost use Prim.Native.Nat.{min, _*_, _-_, _^_, _<_};
 ghost use lib.ListN.{length};
+ghost use Rattle.rules.specs.Allocation.{limitOf};
 ghost use Rattle.rules.specs.Plan.{at};
 ghost use Rattle.rules.specs.Excess.{groupBudget, capacity};
 use sets::task_in;
@@ -40,7 +41,7 @@ fn group_budget(budgets: &[u32], group: u64) -> u64
 pub fn excess(frame: u32, budgets: &[u32], group: u64, cores: u16) -> u64
     ensures { λ r. ⌜
         r
-        ≡ groupBudget (length (now (budgets .entry))) (at (now (budgets .entry))) group - capacity 16 (λ j. frame) cores
+        ≡ groupBudget (length (now (budgets .entry))) (at (now (budgets .entry))) group - capacity 16 (limitOf frame) cores
         ⌝ }
 {
     let need = group_budget(budgets, group);

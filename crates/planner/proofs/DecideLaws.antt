@@ -7,7 +7,7 @@ use native.Mathlib.Omega.{arith}
 use lib.ListN.{length, drop, replicate, length-replicate}
 use Rattle.rules.specs.Sum.{sumTo}
 use Rattle.rules.specs.Piece.{numbersOf}
-use Rattle.rules.specs.Allocation.{Allocation}
+use Rattle.rules.specs.Allocation.{limitOf, Allocation}
 use Rattle.rules.specs.Table.{tableOf}
 use Rattle.rules.specs.Tests.{Tested, refused, passed, tested}
 use Rattle.rules.specs.Plan.{at, Decided, planned, overloaded, PlanAnswer, PlanAnswerAt}
@@ -55,7 +55,7 @@ module _ (F m : ℕ) (budgets masks table : List ℕ) (d : Admitted F m budgets 
     rows-small a l = omega (arith, w .allocation .exact a l, d .given .small a l, d .given .frame)
 
     module _ (after : List ℕ) (k : Kept (length budgets) m (cell units) (cell after)) (p : Peeled (length budgets) m (cell after)) where
-      again : Allocation (length budgets) m (λ j. F) (at budgets) (at masks) (cell after)
+      again : Allocation (length budgets) m (limitOf F) (at budgets) (at masks) (cell after)
       again = kept-allocation (w .allocation) k
 
       -- the units fit, and the lent table has room: a forest has fewer links than vertices

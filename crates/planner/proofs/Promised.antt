@@ -14,13 +14,13 @@ use Rattle.rules.specs.Extra.{extra}
 use Rattle.rules.specs.Piece.{Piece, numbersOf, piecesOf}
 use Rattle.rules.specs.FrameTable.{everyTwo, taskApart, framePieces, frameTable}
 use Rattle.rules.specs.Service.{units}
-use Rattle.rules.specs.Allocation.{Allocation}
+use Rattle.rules.specs.Allocation.{limitOf, Allocation}
 use Rattle.rules.specs.Excess.{Exceeds, Overload, Smallest}
 use Rattle.rules.specs.Loops.{LoopFree}
 use Rattle.rules.specs.Table.{tableOf}
 use Rattle.rules.specs.Tests.{Tested, refused, passed, tested}
 use Rattle.rules.specs.Obeys.{allowed, Obeys}
-use Rattle.rules.specs.Plan.{at, limit, Refusal, PlannedBy, OverloadedBy, Decided, planned, overloaded, PlanAnswer, PlanAnswerAt}
+use Rattle.rules.specs.Plan.{at, Refusal, PlannedBy, OverloadedBy, Decided, planned, overloaded, PlanAnswer, PlanAnswerAt}
 use Rattle.rules.specs.declared.Answer.{Answer}
 use Rattle.rules.specs.declared.Answer.the-variants.{Accepted, Overloaded}
 use Rattle.rules.specs.declared.Planned.{Planned}
@@ -41,7 +41,7 @@ use Rattle.tests.proofs.PassedLaws.{passed-ready}
 
 -- an allocation within the sizes, without a loop: the table that document 01 fixes for it obeys the rules
 module _ (F n m : ℕ) (budget mask : ℕ → ℕ) (x : ℕ → ℕ → ℕ) (some : 1 ≤ F) (most : F ≤ 1000000) (tasks : n ≤ 64) (cores : 1 ≤ m) (few : m ≤ 16)
-    (small : (i : ℕ) → i < n → budget i ≤ F) (a : Allocation n m (λ j. F) budget mask x) (free : LoopFree n m x) where
+    (small : (i : ℕ) → i < n → budget i ≤ F) (a : Allocation n m (limitOf F) budget mask x) (free : LoopFree n m x) where
   pub ready : Ready F n m x
   ready =
       record {
@@ -88,19 +88,19 @@ module _ (F n m : ℕ) (budget mask : ℕ → ℕ) (some : 1 ≤ F) (most : F �
   abbrev Table : Type 0
   Table = (ps : List Piece) × Obeys F n m budget mask ps
 
-  pub overloaded-has-no-table : Overload n m (λ j. F) budget mask → Table → ⊥
+  pub overloaded-has-no-table : Overload n m (limitOf F) budget mask → Table → ⊥
   overloaded-has-no-table o t =
       overloaded-exactly-without-allocation .0 o _ (table-is-allocation F n m budget mask (t .0) (t .1))
 
-  table-of-allocation : (x : ℕ → ℕ → ℕ) → Allocation n m (λ j. F) budget mask x → Table
+  table-of-allocation : (x : ℕ → ℕ → ℕ) → Allocation n m (limitOf F) budget mask x → Table
   table-of-allocation x a =
       let y = allocation-without-loops few a in
       (tableOf F n m (y .0), table-obeys F n m budget mask (y .0) some most tasks cores few small (y .1) (y .2))
 
-  pub table-or-overload : Table ⊎ Overload n m (λ j. F) budget mask
+  pub table-or-overload : Table ⊎ Overload n m (limitOf F) budget mask
   table-or-overload = ⊎-elim (λ a. inl (table-of-allocation (a .0) (a .1))) inr allocation-or-overload
 
-  pub overloaded-exactly-without-table : (Overload n m (λ j. F) budget mask → Table → ⊥) × ((Table → ⊥) → Overload n m (λ j. F) budget mask)
+  pub overloaded-exactly-without-table : (Overload n m (limitOf F) budget mask → Table → ⊥) × ((Table → ⊥) → Overload n m (limitOf F) budget mask)
   overloaded-exactly-without-table = (overloaded-has-no-table, λ none. ⊎-elim (λ t. absurd (none t)) (λ o. o) table-or-overload)
 
 -- what an accepted answer says
@@ -133,12 +133,12 @@ module _ (F m : ℕ) (budgets masks before : List ℕ) (pass : tested F m budget
 
 -- what an overload says
 module _ (F m : ℕ) (budgets masks before : List ℕ) (r : Planned) (after : List ℕ) (g : ℕ) (o : OverloadedBy F m budgets masks before r after g) where
-  pub overload-stands : Overload (length budgets) m (limit F m budgets masks) (at budgets) (at masks)
+  pub overload-stands : Overload (length budgets) m (limitOf F) (at budgets) (at masks)
   overload-stands = (g, o .smallest .tasks, o .exceeds)
 
   pub overload-holds-no-zero : (i : ℕ) → i < length budgets → at budgets i ≡ 0 → has g i ≡ 1 → ⊥
   overload-holds-no-zero i l z =
-      smallest-holds-no-zero (length budgets) m (limit F m budgets masks) (at budgets) (at masks) g (o .smallest) i l z
+      smallest-holds-no-zero (length budgets) m (limitOf F) (at budgets) (at masks) g (o .smallest) i l z
 
 same-planned : (a b : Planned) → a .answer ≡ b .answer → a .pieces ≡ b .pieces → a ≡ b
 same-planned a b p q = λ i. record { answer = p i; pieces = q i }
@@ -162,8 +162,8 @@ module _ (F m : ℕ) (budgets masks before : List ℕ) (r q : Planned) (after la
       refused-once (Overloaded g (union (length budgets) (at masks) g)) (u .refusal)
       (subst (λ (k : ℕ). Refusal (Overloaded k (union (length budgets) (at masks) k)) before q later) e (v .refusal))
 
-  not-both : (x : ℕ → ℕ → ℕ) (g : ℕ) → Allocation (length budgets) m (limit F m budgets masks) (at budgets) (at masks) x
-      → Smallest (length budgets) m (limit F m budgets masks) (at budgets) (at masks) g → Exceeds (length budgets) m (limit F m budgets masks) (at budgets) (at masks) g → ⊥
+  not-both : (x : ℕ → ℕ → ℕ) (g : ℕ) → Allocation (length budgets) m (limitOf F) (at budgets) (at masks) x
+      → Smallest (length budgets) m (limitOf F) (at budgets) (at masks) g → Exceeds (length budgets) m (limitOf F) (at budgets) (at masks) g → ⊥
   not-both x g a s e = overloaded-exactly-without-allocation .0 (g, s .tasks, e) x a
 
   decided-once : Decided F m budgets masks before r after → Decided F m budgets masks before q later → Agree r q after later
@@ -182,7 +182,7 @@ module _ (F m : ℕ) (budgets masks before : List ℕ) (r q : Planned) (after la
 -- a set that passed the tests 1 to 6 is refused exactly when it is overloaded
 module _ (F m : ℕ) (budgets masks before : List ℕ) (r : Planned) (after : List ℕ) where
   Over : Type 0
-  Over = Overload (length budgets) m (limit F m budgets masks) (at budgets) (at masks)
+  Over = Overload (length budgets) m (limitOf F) (at budgets) (at masks)
 
   differ : (g c : ℕ) → r .answer ≡ Accepted → r .answer ≡ Overloaded g c → ⊥
   differ g c p q = let z : _≡_ {A = ℕ} 0 1 = cc in omega arith
@@ -198,8 +198,8 @@ module _ (F m : ℕ) (budgets masks before : List ℕ) (r : Planned) (after : Li
   fitting-accepted (overloaded g p) h = absurd (h (overload-stands F m budgets masks before r after g p))
 
   pub accepted-exactly-without-overload : tested F m budgets masks before ≡ passed → PlanAnswer F m budgets masks before r after
-      → (r .answer ≡ Accepted → Overload (length budgets) m (limit F m budgets masks) (at budgets) (at masks) → ⊥) ×
-      ((Overload (length budgets) m (limit F m budgets masks) (at budgets) (at masks) → ⊥) → r .answer ≡ Accepted)
+      → (r .answer ≡ Accepted → Overload (length budgets) m (limitOf F) (at budgets) (at masks) → ⊥) ×
+      ((Overload (length budgets) m (limitOf F) (at budgets) (at masks) → ⊥) → r .answer ≡ Accepted)
   unfolding Over
   accepted-exactly-without-overload pass h =
       let d = subst (λ (t : Tested). PlanAnswerAt t F m budgets masks before r after) pass h in (accepted-fits d, fitting-accepted d)

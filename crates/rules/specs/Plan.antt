@@ -6,7 +6,7 @@ use mathlib.Core.List.{List, _++_}
 use Prim.Native.Nat.{ℕ, _*_}
 use lib.ListN.{length, getD, drop}
 use Rattle.rules.specs.Sets.{union}
-use Rattle.rules.specs.Allocation.{Allocation}
+use Rattle.rules.specs.Allocation.{limitOf, Allocation}
 use Rattle.rules.specs.Excess.{Exceeds, Smallest}
 use Rattle.rules.specs.Loops.{LoopFree}
 use Rattle.rules.specs.Piece.{numbersOf}
@@ -27,13 +27,9 @@ pub record Refusal (a : Answer) (before : List ℕ) (r : Planned) (after : List 
   pub kept : after ≡ before
 
 module _ (F m : ℕ) (budgets masks : List ℕ) where
-  -- today each core's limit is F
-  abbrev pub limit : ℕ → ℕ
-  limit j = F
-
   -- 0: the table is the one that the loop-free allocation x fixes; what lies beyond its pieces keeps
   pub record PlannedBy (before : List ℕ) (r : Planned) (after : List ℕ) (x : ℕ → ℕ → ℕ) : Type 0 where
-    pub allocation : Allocation (length budgets) m limit (at budgets) (at masks) x
+    pub allocation : Allocation (length budgets) m (limitOf F) (at budgets) (at masks) x
     pub loop-free : LoopFree (length budgets) m x
     pub answer : r .answer ≡ Accepted
     pub pieces : r .pieces ≡ length (tableOf F (length budgets) m x)
@@ -41,8 +37,8 @@ module _ (F m : ℕ) (budgets masks : List ℕ) where
 
   -- 7: "overload, as defined below", with "group and its cores"
   pub record OverloadedBy (before : List ℕ) (r : Planned) (after : List ℕ) (g : ℕ) : Type 0 where
-    pub exceeds : Exceeds (length budgets) m limit (at budgets) (at masks) g
-    pub smallest : Smallest (length budgets) m limit (at budgets) (at masks) g
+    pub exceeds : Exceeds (length budgets) m (limitOf F) (at budgets) (at masks) g
+    pub smallest : Smallest (length budgets) m (limitOf F) (at budgets) (at masks) g
     pub refusal : Refusal (Overloaded g (union (length budgets) (at masks) g)) before r after
 
   -- the search for an allocation decides between the two

@@ -6,12 +6,13 @@ use mathlib.Core.Bool.{false}
 use mathlib.Core.List.{List, [], _∷_, _++_}
 use Prim.Native.Nat.{ℕ, _+_, _*_, _≤_, _<_}
 use lib.ListN.{length, getD, drop}
+use Rattle.rules.specs.Allocation.{limitOf}
 use Rattle.rules.specs.Sets.{union}
 use Rattle.rules.specs.Excess.{groupBudget, groupCapacity, Smallest}
 use Rattle.rules.specs.Piece.{piecesOf, wholePieces}
 use Rattle.rules.specs.Moves.{moves}
 use Rattle.rules.specs.Tests.{shortTable}
-use Rattle.rules.specs.Plan.{at, limit, PlanAnswer}
+use Rattle.rules.specs.Plan.{at, PlanAnswer}
 use Rattle.rules.specs.Finish.{Finishes}
 use Rattle.rules.specs.Line.{digits}
 use Rattle.rules.specs.LineCall.{LineAnswer}
@@ -56,8 +57,8 @@ Holds (accepts F m budgets masks table) = Only F m budgets masks Accepted table
 Holds (refuses F m budgets masks a) = Only F m budgets masks a []
 Holds (overloads F m budgets masks g c e) =
     Only F m budgets masks (Overloaded g c) [] ×
-    Smallest (length budgets) m (limit F m budgets masks) (at budgets) (at masks) g ×
-    (groupBudget (length budgets) (at budgets) g ≡ groupCapacity (length budgets) m (limit F m budgets masks) (at budgets) (at masks) g + e) ×
+    Smallest (length budgets) m (limitOf F) (at budgets) (at masks) g ×
+    (groupBudget (length budgets) (at budgets) g ≡ groupCapacity (length budgets) m (limitOf F) (at budgets) (at masks) g + e) ×
     (union (length budgets) (at masks) g ≡ c)
 Holds (answers c v d w) = ((line : List ℕ) → LineAnswer (digits c v) line → line ≡ digits d w) × LineAnswer (digits c v) (digits d w)
 Holds (moved table count) = moves (piecesOf table) ≡ count

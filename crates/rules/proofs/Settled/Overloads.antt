@@ -5,11 +5,12 @@ use mathlib.Core.List.{[], _∷_}
 use Prim.Native.Nat.{ℕ, _+_, _≤_}
 use native.Mathlib.Omega.{arith}
 use lib.Dec.{lit<}
+use Rattle.rules.specs.Allocation.{limitOf}
 use Rattle.rules.specs.Sum.{sumTo, firstAt}
 use Rattle.rules.specs.Sets.{has, union}
 use Rattle.rules.specs.Excess.{groupBudget, capacity, groupCapacity, Exceeds, Smallest}
 use Rattle.rules.specs.Tests.{testedSet, badFrame, badCores, badTasks, badMask, badBudget, tested}
-use Rattle.rules.specs.Plan.{at, limit}
+use Rattle.rules.specs.Plan.{at}
 use Rattle.rules.specs.Settled.{Holds, overloads, refuses}
 use Rattle.rules.specs.declared.Answer.the-variants.{Budget}
 use Rattle.rules.proofs.Computed.{greatestTest, smallestTest, smallest-computed, sameTest, same-computed}
@@ -29,7 +30,7 @@ none2 x a =
     let c0 : 0 + x 0 0 + x 1 0 + x 2 0 ≤ 10 = a .within 0 (lit< tt) in
     omega arith
 
-smallest2 : Smallest 3 2 (limit 10 2 (8 ∷ 8 ∷ 3 ∷ []) (0b01 ∷ 0b01 ∷ 0b10 ∷ [])) (at (8 ∷ 8 ∷ 3 ∷ [])) (at (0b01 ∷ 0b01 ∷ 0b10 ∷ [])) 0b011
+smallest2 : Smallest 3 2 (limitOf 10) (at (8 ∷ 8 ∷ 3 ∷ [])) (at (0b01 ∷ 0b01 ∷ 0b10 ∷ [])) 0b011
 unfolding sumTo has union groupBudget capacity groupCapacity greatestTest smallestTest
 smallest2 = smallest-computed 3 2 _ _ _ 0b011 (lit< tt) tt tt
 
@@ -51,7 +52,7 @@ none3 x a =
     let c0 : 0 + x 0 0 + x 1 0 + x 2 0 ≤ 10 = a .within 0 (lit< tt) in
     omega arith
 
-smallest3 : Smallest 3 2 (limit 10 2 (6 ∷ 6 ∷ 10 ∷ []) (0b01 ∷ 0b01 ∷ 0b10 ∷ [])) (at (6 ∷ 6 ∷ 10 ∷ [])) (at (0b01 ∷ 0b01 ∷ 0b10 ∷ [])) 0b011
+smallest3 : Smallest 3 2 (limitOf 10) (at (6 ∷ 6 ∷ 10 ∷ [])) (at (0b01 ∷ 0b01 ∷ 0b10 ∷ [])) 0b011
 unfolding sumTo has union groupBudget capacity groupCapacity greatestTest smallestTest
 smallest3 = smallest-computed 3 2 _ _ _ 0b011 (lit< tt) tt tt
 
@@ -71,7 +72,7 @@ none6 x a =
     let c0 : 0 + x 0 0 + x 1 0 ≤ 10 = a .within 0 (lit< tt) in
     omega arith
 
-smallest6 : Smallest 2 1 (limit 10 1 (5 ∷ 6 ∷ []) (0b1 ∷ 0b1 ∷ [])) (at (5 ∷ 6 ∷ [])) (at (0b1 ∷ 0b1 ∷ [])) 0b11
+smallest6 : Smallest 2 1 (limitOf 10) (at (5 ∷ 6 ∷ [])) (at (0b1 ∷ 0b1 ∷ [])) 0b11
 unfolding sumTo has union groupBudget capacity groupCapacity greatestTest smallestTest
 smallest6 = smallest-computed 2 1 _ _ _ 0b11 (lit< tt) tt tt
 

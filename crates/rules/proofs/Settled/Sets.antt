@@ -6,13 +6,13 @@ use Prim.Native.Nat.{ℕ, _*_, _^_, _<_}
 use native.Mathlib.Nat.{le-antisymm}
 use lib.ListN.{length, drop}
 use Rattle.rules.specs.Sets.{has, union}
-use Rattle.rules.specs.Allocation.{Allocation}
+use Rattle.rules.specs.Allocation.{limitOf, Allocation}
 use Rattle.rules.specs.Excess.{Exceeds, Smallest}
 use Rattle.rules.specs.Loops.{LoopFree}
 use Rattle.rules.specs.Piece.{numbersOf}
 use Rattle.rules.specs.Table.{tableOf}
 use Rattle.rules.specs.Tests.{Tested, refused, passed, tested}
-use Rattle.rules.specs.Plan.{at, limit, Refusal, PlannedBy, OverloadedBy, Decided, planned, overloaded, PlanAnswerAt}
+use Rattle.rules.specs.Plan.{at, Refusal, PlannedBy, OverloadedBy, Decided, planned, overloaded, PlanAnswerAt}
 use Rattle.rules.specs.Settled.{Roomy, Only}
 use Rattle.rules.specs.declared.Answer.{Answer}
 use Rattle.rules.specs.declared.Answer.the-variants.{Accepted, Overloaded}
@@ -21,17 +21,17 @@ use Rattle.rules.proofs.Numbers.{length-numbers}
 
 module _ (F m : ℕ) (budgets masks : List ℕ) where
   Fit : ℕ → Type 0
-  Fit g = Exceeds (length budgets) m (limit F m budgets masks) (at budgets) (at masks) g
+  Fit g = Exceeds (length budgets) m (limitOf F) (at budgets) (at masks) g
 
   abbrev pub Passes : Type 0
   Passes = (before : List ℕ) → Roomy (length budgets) m before → tested F m budgets masks before ≡ passed
 
   abbrev pub Alloc : (ℕ → ℕ → ℕ) → Type 0
-  Alloc x = Allocation (length budgets) m (limit F m budgets masks) (at budgets) (at masks) x
+  Alloc x = Allocation (length budgets) m (limitOf F) (at budgets) (at masks) x
 
   module _ (table : List ℕ) (pass : Passes)
       (fixed : (x : ℕ → ℕ → ℕ) → Alloc x → numbersOf (tableOf F (length budgets) m x) ≡ table)
-      (fits : (g : ℕ) → g < 2 ^ length budgets → Exceeds (length budgets) m (limit F m budgets masks) (at budgets) (at masks) g → ⊥)
+      (fits : (g : ℕ) → g < 2 ^ length budgets → Exceeds (length budgets) m (limitOf F) (at budgets) (at masks) g → ⊥)
       (x : ℕ → ℕ → ℕ) (allocation : Alloc x) (free : LoopFree (length budgets) m x) where
     Is : List ℕ → Planned → List ℕ → Type 0
     Is before r after = (r .answer ≡ Accepted) × (4 * r .pieces ≡ length table) × (after ≡ table ++ drop (length table) before)
@@ -68,15 +68,15 @@ module _ (F m : ℕ) (budgets masks : List ℕ) where
         }
 
   module _ (g c : ℕ) (pass : Passes) (none : (x : ℕ → ℕ → ℕ) → Alloc x → ⊥)
-      (smallest : Smallest (length budgets) m (limit F m budgets masks) (at budgets) (at masks) g)
-      (exceeds : Exceeds (length budgets) m (limit F m budgets masks) (at budgets) (at masks) g)
+      (smallest : Smallest (length budgets) m (limitOf F) (at budgets) (at masks) g)
+      (exceeds : Exceeds (length budgets) m (limitOf F) (at budgets) (at masks) g)
       (cores : union (length budgets) (at masks) g ≡ c)
       (same : (h : ℕ) → h < 2 ^ length budgets → ((i : ℕ) → i < length budgets → has h i ≡ has g i) → h ≡ g) where
     Shown : List ℕ → Planned → List ℕ → Type 0
     Shown before r after = (r .answer ≡ Overloaded g c) × (4 * r .pieces ≡ 0) × (after ≡ [] ++ drop 0 before)
 
     -- two smallest groups hold each other
-    one-group : (h : ℕ) → Smallest (length budgets) m (limit F m budgets masks) (at budgets) (at masks) h → h ≡ g
+    one-group : (h : ℕ) → Smallest (length budgets) m (limitOf F) (at budgets) (at masks) h → h ≡ g
     one-group h s =
         same h (s .tasks)
         (λ i l. le-antisymm (s .smallest g (smallest .tasks) (smallest .greatest h (s .tasks)) i l) (smallest .smallest h (s .tasks) (s .greatest g (smallest .tasks)) i l))

@@ -3,15 +3,16 @@
 KIT := rattle-kit-5b logic 064da1ca440f63e7
 CC ?= cc
 
-.PHONY: run test compare executive bench kit plan
+.PHONY: run test compare executive bench kit plan calls
 
 kit:
 	@command -v rt >/dev/null || { echo "rt is missing: install the Rattle kit ($(KIT)) and put its bin/ on PATH"; exit 1; }
 	@found="$$(rt version)"; test "$$found" = "$(KIT)" || echo "note: this kit is '$$found'; the proofs were last seen with '$(KIT)'"
 
-plan: kit
-	@mkdir -p target && rt check plan >target/plan.log 2>&1 || { tail -n 20 target/plan.log; exit 1; }
-	@tail -n 1 target/plan.log
+# the programs, proved and built
+plan calls: kit
+	@mkdir -p target && rt check $@ >target/$@.log 2>&1 || { tail -n 20 target/$@.log; exit 1; }
+	@tail -n 1 target/$@.log
 
 # each set's line and the answer under it; examples/sets.txt says what each is
 run: plan
@@ -23,13 +24,12 @@ executive: kit
 	@$(CC) -O2 -Wall -Wextra -Iinclude -o target/executive examples/executive.c target/staticlib/libaurhennig.a
 	@target/executive
 
-bench: executive plan
-	@rt check calls >target/calls.log 2>&1 || { tail -n 20 target/calls.log; exit 1; }
+bench: executive plan calls
 	@bench/run
 
 test: kit
 	@second/judge-stored
 	@rt ci
 
-compare: kit
+compare: plan calls
 	@second/compare "$(COUNT)" "$(SEED)"

@@ -1,7 +1,6 @@
 # make run: prove, build, plan the sample sets and print the answers. make test: the gate, whose last line is 'N passed, 0 failed'.
 # make compare: random lines through the compiled programs and the second program; SEED=.. and COUNT=.. may be given.
 KIT := rattle-kit-5b logic 064da1ca440f63e7
-CC ?= cc
 
 .PHONY: run test compare executive bench kit plan calls
 
@@ -16,13 +15,13 @@ plan calls: kit
 
 # each set's line and the answer under it; examples/sets.txt says what each is
 run: plan
-	@target/bin/plan <examples/sets.hex >target/sets.out
+	@scripts/x86-64 run target/bin/plan <examples/sets.hex >target/sets.out
 	@paste -d '\n' examples/sets.hex target/sets.out
 
 executive: kit
 	@mkdir -p target && rt staticlib aurhennig >target/staticlib.log 2>&1 || { tail -n 20 target/staticlib.log; exit 1; }
-	@$(CC) -O2 -Wall -Wextra -Iinclude -o target/executive examples/executive.c target/staticlib/libaurhennig.a
-	@target/executive
+	@scripts/x86-64 cc -O2 -Wall -Wextra -Iinclude -o target/executive examples/executive.c target/staticlib/libaurhennig.a
+	@scripts/x86-64 run target/executive
 
 bench: executive plan calls
 	@bench/run

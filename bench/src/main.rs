@@ -22,7 +22,9 @@ fn main() -> ExitCode {
     }
     println!("machine: {}", machine());
     println!("{SETS} random sets each, 64 tasks, 16 cores, frame 1,000,000; times per set");
-    if cfg!(not(line_call)) {
+    if cfg!(not(target_arch = "x86_64")) {
+        println!("the planner is compiled for x86-64, and here its times would say nothing: the plain flow alone");
+    } else if cfg!(not(line_call)) {
         println!("target/staticlib/libaurhennig.a is not there: the plain flow alone");
     }
     for (name, masks, seed) in [("nested", Masks::Nested, 1), ("arbitrary", Masks::Arbitrary, 2)] {
@@ -30,6 +32,9 @@ fn main() -> ExitCode {
             eprintln!("flow: {name} masks: {why}");
             return ExitCode::from(1);
         }
+    }
+    if cfg!(not(target_arch = "x86_64")) {
+        return ExitCode::SUCCESS;
     }
     if let Err(why) = programs::measure(Path::new("..")) {
         eprintln!("flow: {why}");
@@ -79,6 +84,6 @@ fn machine() -> String {
         .collect();
     match names.first() {
         Some(name) => format!("{name}, {} processors", names.len()),
-        None => "unknown".to_string(),
+        None => format!("unknown, {}", std::env::consts::ARCH),
     }
 }

@@ -1,15 +1,10 @@
-pub mod AheadCode
 pub mod BackLaws
 pub mod CycleLaws
 pub mod DecideLaws
 pub mod EndLaws
 pub mod FillLaws
-pub mod GapLaws
-pub mod InsertLaws
-pub mod LayLaws
 pub mod Links
 pub mod Loose
-pub mod OutLaws
 pub mod Promised
 pub mod RingLaws
 pub mod SearchLaws
@@ -18,5 +13,4 @@ pub mod ShiftLaws
 pub mod StepLaws
 pub mod Stores
 pub mod UnloopLaws
-pub mod WalkLaws
 pub mod WayLaws

@@ -2,9 +2,7 @@ pub mod Back
 pub mod Fill
 pub mod Filled
 pub mod Loose
-pub mod Pieces
 pub mod Plan
 pub mod Search
 pub mod Seeking
 pub mod Shifts
-pub mod Walking

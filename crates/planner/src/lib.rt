@@ -1,19 +1,15 @@
 // The planner: from a set of tasks to its frame table, or to a numbered refusal.
 mod admit;
-mod before;
 mod cycle;
 mod decide;
 mod excess;
 mod flow;
-mod frame;
 mod peel;
-mod pieces;
 mod search;
 mod sets;
 mod shift;
 mod steps;
 mod unloop;
-mod walking;
 
 use admit::Verdict;
 use rules::Planned;

@@ -12,12 +12,10 @@ use Rattle.rules.specs.Piece.{Piece, numbersOf}
 use Rattle.rules.specs.Moves.{insert}
 use Rattle.rules.specs.Table.{cut, insertAll}
 use Rattle.layout.specs.Pieces.{Room, Placed, gap, Inserts}
-use Rattle.stretches.proofs.PieceLists.{total-length, total-insert}
-use Rattle.sums.proofs.Inserted.{insert-later, insert-here}
+use Rattle.sums.proofs.Inserted.{insert-later, insert-here, length-insert}
 use Rattle.stretches.proofs.Numbers.{numbers-append}
 use Rattle.rules.proofs.Numbers.{length-numbers}
 use Rattle.stretches.proofs.Cuts.{cut-fits, cut-crosses}
-use Rattle.sums.proofs.Inserted.{length-insert}
 
 -- the list with a piece put in at the place r
 abbrev placedIn : List ℕ → ℕ → ℕ → Piece → List ℕ

@@ -9,7 +9,7 @@ use native.Mathlib.Omega.{arith}
 use lib.ListN.{length, getD, drop, length-append}
 use lib.Seq.{drop-drop}
 use Rattle.rules.specs.Sizes.{maxFrame}
-use Rattle.rules.specs.Sum.{sumTo, positive}
+use Rattle.rules.specs.Sum.{positive}
 use Rattle.rules.specs.Piece.{Piece, numbersOf}
 use Rattle.rules.specs.Layout.{Walk, ahead, stretch}
 use Rattle.rules.specs.Table.{cut, insertAll, piecesOn, coreTo, coresTo}

@@ -4,7 +4,6 @@ ghost use mathlib.Core.List.{[], _∷_};
 ghost use Prim.Native.Nat.{_+_, _-_, _*_, _≤_, _<_};
 ghost use lib.ListN.{length, set};
 ghost use Rattle.rules.specs.Sizes.{maxFrame};
-ghost use Rattle.rules.specs.Piece.{Piece};
 ghost use Rattle.rules.specs.Table.{cut};
 ghost use Rattle.layout.specs.Pieces.{mostPieces, Room, Placed, gap, Inserts};
 

@@ -1,7 +1,6 @@
 -- `pieces::add_stretch` meets its contract: one piece, or two where the stretch crosses the end.
 -- Assumes nothing.
 use borrow.Author.Needs.{needs}
-use native.Mathlib.Omega.{arith}
 use Rattle.layout.proofs.InsertLaws.{room-one, room-two, room-less, cut-one, cut-two}
 use Rattle.layout.proofs.pieces.add_stretch.Statement.{statement}
 use Rattle.layout.proofs.pieces.add_stretch.Tie as tie

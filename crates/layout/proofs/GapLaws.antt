@@ -3,7 +3,7 @@
 use mathlib.Core.Path.{_≡_, sym, _∙_, ap, ap₂}
 use mathlib.Core.List.{List, _∷_, _++_}
 use Prim.Native.Nat.{ℕ, zero, suc, _+_, _-_, _*_, _≤_, _<_}
-use native.Mathlib.Nat.{not-suc-le-zero}
+use native.Mathlib.Nat.{le-antisymm, not-suc-le-zero}
 use native.Mathlib.Decide.{ℕ-discrete}
 use native.Mathlib.Omega.{arith}
 use lib.ListN.{length, getD, take, drop, set, take-append-drop, List·getD-append}
@@ -62,7 +62,4 @@ gap-more l table from (suc j) c e h k n = rw (e, back j) (gap-step l j c k n)
     back j = omega arith
 
 pub gap-done : (l table : List ℕ) (from i c : ℕ) → table ≡ gap l i c → from ≤ i → i ≤ from → table ≡ gap l from c
-gap-done l table from i c e a b = e ∙ ap (λ (k : ℕ). gap l k c) (meets a b)
-  where
-    meets : {k m : ℕ} → m ≤ k → k ≤ m → k ≡ m
-    meets a b = omega arith
+gap-done l table from i c e a b = e ∙ ap (λ (k : ℕ). gap l k c) (le-antisymm b a)

@@ -3,7 +3,7 @@
 use mathlib.Core.Path.{_≡_, refl, sym, _∙_, ap, ap₂, subst, fun-ext}
 use mathlib.Core.List.{List}
 use Prim.Native.Nat.{ℕ, suc, _+_, _-_, _*_, _≤_, _<_}
-use native.Mathlib.Nat.{one-mul, mul-one, mul-zero, zero-mul}
+use native.Mathlib.Nat.{le-antisymm, one-mul, mul-one, mul-zero, zero-mul}
 use native.Mathlib.Numerals.{add-one}
 use native.Mathlib.Decide.{ℕ-discrete, decLt}
 use native.Mathlib.Omega.{arith}
@@ -89,10 +89,7 @@ module _ (m : ℕ) (units : List ℕ) (task core at : ℕ) (w : Walk) where
       }
 
   pub reach-done : (k : ℕ) (s : Marks) (start first : List ℕ) → k ≤ m → m ≤ k → ReachedTo k s start first → ReachedTo m s start first
-  reach-done k s start first a b h n = subst (λ (i : ℕ). Kept (reach n m (cell units) task core at i w) s start first) (meets a b) (h n)
-    where
-      meets : {k m : ℕ} → k ≤ m → m ≤ k → k ≡ m
-      meets a b = omega arith
+  reach-done k s start first a b h n = subst (λ (i : ℕ). Kept (reach n m (cell units) task core at i w) s start first) (le-antisymm a b) (h n)
 
 pub reach-begin : (m : ℕ) (units : List ℕ) (task core at : ℕ) (s : Marks) (start first : List ℕ) → Reaching m units task core at start first
     → ReachedTo m units task core at (walkOf s start first) 0 s start first
@@ -169,10 +166,7 @@ module _ (n m : ℕ) (units : List ℕ) (core : ℕ) where
       record { same = rw (add-one t) (b .same ∙ ap (meetOne n m (cell units) core t) (a .same)); start-long = b .start-long; first-long = b .first-long }
 
   pub meet-done : (w : Walk) (t : ℕ) (s : Marks) (start first : List ℕ) → t ≤ n → n ≤ t → Kept (meet n m (cell units) core t w) s start first → Kept (meet n m (cell units) core n w) s start first
-  meet-done w t s start first a b h = subst (λ (i : ℕ). Kept (meet n m (cell units) core i w) s start first) (meets a b) h
-    where
-      meets : {k m : ℕ} → k ≤ m → m ≤ k → k ≡ m
-      meets a b = omega arith
+  meet-done w t s start first a b h = subst (λ (i : ℕ). Kept (meet n m (cell units) core i w) s start first) (le-antisymm a b) h
 
   pub meet-asks : (t : ℕ) (s₀ s : Marks) (start₀ first₀ start first : List ℕ) → Meeting n m units core (latestStart (maxCores - 1)) s₀ start₀ first₀ → t < n
       → Kept (meet n m (cell units) core t (walkOf s₀ start₀ first₀)) s start first → Meeting n m units core (latestStart maxCores) s start first
@@ -273,10 +267,7 @@ module _ (n m : ℕ) (units : List ℕ) where
 
   pub walk-done : (c : ℕ) (s : Marks) (start first : List ℕ) → c ≤ m → m ≤ c → Kept (visits n m (cell units) c) s start first → Kept (layout n m (cell units)) s start first
   unfolding layout
-  walk-done c s start first a b h = subst (λ (i : ℕ). Kept (visits n m (cell units) i) s start first) (meets a b) h
-    where
-      meets : {k m : ℕ} → k ≤ m → m ≤ k → k ≡ m
-      meets a b = omega arith
+  walk-done c s start first a b h = subst (λ (i : ℕ). Kept (visits n m (cell units) i) s start first) (le-antisymm a b) h
 
   pub walk-asks : (c j : ℕ) (s : Marks) (start first : List ℕ) → Small n m (cell units) → c < m → Kept (visits n m (cell units) c) s start first
       → ((n : ℕ) (x : ℕ → ℕ → ℕ) (start first : List ℕ) → j ≡ nextCore n m x (walkOf s start first)) → Meeting n m units j (latestStart (maxCores - 1)) s start first

@@ -9,10 +9,12 @@ use lib.Seq.{slice}
 use Rattle.rules.specs.Sizes.{maxFrame, maxTasks, maxCores}
 use Rattle.rules.specs.Piece.{Piece, numbersOf}
 use Rattle.rules.specs.Sum.{sumTo}
-use Rattle.rules.specs.Table.{insertAll, piecesOn, coreTo, coresTo}
+use Rattle.rules.specs.Table.{cut, insertAll, piecesOn, coreTo, coresTo}
 use Rattle.rules.specs.Layout.{Walk}
 use Rattle.stretches.specs.Cell.{cell}
 use Rattle.layout.specs.Walking.{latestStart}
+use Rattle.layout.specs.declared.pieces.Part.{Part}
+use Rattle.layout.specs.declared.laying.Core.{Core}
 
 -- no units make more pieces: one for each task on each core, and one more a core
 abbrev pub mostPieces : ℕ
@@ -40,17 +42,24 @@ Inserts from count ps before after =
     (a b : List Piece) (rest : List ℕ) → length a ≡ from → length a + length b ≡ count → before ≡ numbersOf a ++ (numbersOf b ++ rest) →
     after ≡ numbersOf a ++ (numbersOf (insertAll ps b) ++ drop (4 * length ps) rest)
 
+-- the piece of the code's four numbers, and the pieces of the stretch that they stand for
+abbrev pub pieceOf : Part → Piece
+pieceOf p = record { core = p .core; task = p .task; start = p .start; len = p .len }
+
+abbrev pub cutOf : ℕ → Part → List Piece
+cutOf F p = cut F (p .core) (p .task) (p .start) (p .len)
+
 -- a walk in which every core has this start and this first task: what is read of a walk for one core
 abbrev pub alone : ℕ → ℕ → Walk
 alone start first =
     record { visited = λ j. 0; reached = λ j. 0; met = λ t. 0; start = λ j. start; first = λ j. first }
 
--- the pieces of a task, and of the tasks below c, on core j that starts at `start` and has the task `first` - 1 in front
-abbrev pub taskPieces : ℕ → ℕ → List ℕ → ℕ → ℕ → ℕ → ℕ → List Piece
-taskPieces F n units start first j t = piecesOn F n n (cell units) (alone start first) j t
+-- the pieces of a task, and of the tasks below c, on a core
+abbrev pub taskPieces : ℕ → ℕ → List ℕ → Core → ℕ → List Piece
+taskPieces F n units on t = piecesOn F n n (cell units) (alone (on .at) (on .first)) (on .core) t
 
-abbrev pub corePieces : ℕ → ℕ → List ℕ → ℕ → ℕ → ℕ → ℕ → List Piece
-corePieces F n units start first j c = coreTo F n n (cell units) (alone start first) j c
+abbrev pub corePieces : ℕ → ℕ → List ℕ → Core → ℕ → List Piece
+corePieces F n units on c = coreTo F n n (cell units) (alone (on .at) (on .first)) (on .core) c
 
 -- the pieces ps follow the first `from` pieces; what lay behind these is written over
 abbrev pub Appends : ℕ → List Piece → List ℕ → List ℕ → Type 0
@@ -58,14 +67,18 @@ Appends from ps before after =
     (a : List Piece) (rest : List ℕ) → length a ≡ from → before ≡ numbersOf a ++ rest → after ≡ numbersOf a ++ (numbersOf ps ++ drop (4 * length ps) rest)
 
 -- before the pieces of a core are laid
-pub record OnCore (F n : ℕ) (units : List ℕ) (core start first : ℕ) : Type 0 where
+pub record OnCore (F n : ℕ) (units : List ℕ) (on : Core) : Type 0 where
   pub frame-some : 1 ≤ F
   pub frame-most : F ≤ maxFrame
   pub tasks : n ≤ maxTasks
-  pub core-few : core < maxCores
-  pub start-few : start ≤ latestStart maxCores
-  pub first-few : first ≤ n
-  pub column : sumTo n (λ i. cell units i core) ≤ F
+  pub core-few : on .core < maxCores
+  pub start-few : on .at ≤ latestStart maxCores
+  pub first-few : on .first ≤ n
+  pub column : sumTo n (λ i. cell units i (on .core)) ≤ F
+
+-- core j as the starts and the first tasks have it, with `from` pieces before its own
+abbrev pub coreOf : List ℕ → List ℕ → ℕ → ℕ → Core
+coreOf start first j from = record { core = j; at = getD start j 0; first = getD first j 0; from = from }
 
 -- a walk of which only the starts and the first tasks are kept
 abbrev pub startsOf : List ℕ → List ℕ → Walk

@@ -10,74 +10,71 @@ ghost use Rattle.stretches.specs.Cell.{cell};
 ghost use Rattle.layout.specs.Laid.{Fits};
 ghost use Rattle.layout.specs.Pieces.{Room, taskPieces, corePieces, coresPieces, Inserts, Appends, OnCore, OnCores};
 use crate::before::ahead_on_core;
+use crate::pieces::Part;
 use crate::pieces::add_stretch;
 use crate::walking::walk;
 
-// The pieces of a task on a core that starts at `at`, with task `first` - 1 in front, are put in among those from `from` up to `count`.
+// A core to be laid: its number, where it starts, the task in front plus 1 or 0 for a root, and the pieces of the table before its own.
+struct Core {
+    pub core: usize,
+    pub at: u32,
+    pub first: usize,
+    pub from: usize,
+}
+
+// The pieces of a task are put in among those of the core, which go up to `count`. The number of pieces then.
 fn lay_task(
     table: &mut [u32],
     units: &[u32; 1024],
     frame: u32,
     tasks: usize,
-    core: usize,
-    at: u32,
-    first: usize,
-    from: usize,
+    on: Core,
     count: usize,
     task: usize,
 ) -> usize
     requires { ⌜
-        OnCore frame tasks (now units) core at first ×
+        OnCore frame tasks (now units) on ×
         (task < tasks) ×
-        (from ≤ count) ×
-        Room (count + length (taskPieces frame tasks (now units) at first core task)) (length (now table))
+        (on .from ≤ count) ×
+        Room (count + length (taskPieces frame tasks (now units) on task)) (length (now table))
         ⌝ }
     ensures { λ r. ⌜
-        (r ≡ count + length (taskPieces frame tasks (now (units .entry)) at first core task)) ×
-        Inserts from count (taskPieces frame tasks (now (units .entry)) at first core task) (now (table .entry)) (now (table .exit))
+        (r ≡ count + length (taskPieces frame tasks (now (units .entry)) on task)) ×
+        Inserts (on .from) count (taskPieces frame tasks (now (units .entry)) on task) (now (table .entry)) (now (table .exit))
         ⌝ }
 {
+    let core = on.core;
     let len = units[task * 16 + core];
     if len == 0 {
         return count;
     }
-    let start = (at + ahead_on_core(units, tasks, core, first, task)) % frame;
-    add_stretch(
-        table,
-        from,
-        count,
-        frame,
-        core as u32,
-        task as u32,
+    let start = (on.at + ahead_on_core(units, tasks, core, on.first, task)) % frame;
+    let core_number = core as u32;
+    let task_number = task as u32;
+    let part = Part {
+        core: core_number,
+        task: task_number,
         start,
         len,
-    )
+    };
+    add_stretch(table, on.from, count, frame, part)
 }
 
-// The pieces of a core follow the first `from` pieces of the table. The number of pieces then.
-fn lay_core(
-    table: &mut [u32],
-    units: &[u32; 1024],
-    frame: u32,
-    tasks: usize,
-    core: usize,
-    at: u32,
-    first: usize,
-    from: usize,
-) -> usize
+// The pieces of a core follow those of the cores before. The number of pieces then.
+fn lay_core(table: &mut [u32], units: &[u32; 1024], frame: u32, tasks: usize, on: Core) -> usize
     requires { ⌜
-        OnCore frame tasks (now units) core at first ×
-        Room (from + length (corePieces frame tasks (now units) at first core tasks)) (length (now table))
+        OnCore frame tasks (now units) on ×
+        Room (on .from + length (corePieces frame tasks (now units) on tasks)) (length (now table))
         ⌝ }
     ensures { λ r. ⌜
-        (r ≡ from + length (corePieces frame tasks (now (units .entry)) at first core tasks)) ×
-        Appends from (corePieces frame tasks (now (units .entry)) at first core tasks) (now (table .entry)) (now (table .exit))
+        (r ≡ on .from + length (corePieces frame tasks (now (units .entry)) on tasks)) ×
+        Appends (on .from) (corePieces frame tasks (now (units .entry)) on tasks) (now (table .entry)) (now (table .exit))
         ⌝ }
 {
-    let mut count = from;
+    let mut count = on.from;
     let mut t = 0;
     while t < tasks {
-        count = lay_task(table, units, frame, tasks, core, at, first, from, count, t);
+        count = lay_task(table, units, frame, tasks, on, count, t);
         t += 1;
     }
     count
@@ -106,7 +103,13 @@ fn lay_cores(
     while j < cores {
         let at = start[j];
         let task = first[j];
-        count = lay_core(table, units, frame, tasks, j, at, task, count);
+        let on = Core {
+            core: j,
+            at,
+            first: task,
+            from: count,
+        };
+        count = lay_core(table, units, frame, tasks, on);
         j += 1;
     }
     count

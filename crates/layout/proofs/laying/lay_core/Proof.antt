@@ -8,16 +8,16 @@ use Rattle.layout.proofs.laying.lay_core.Statement.{statement}
 use Rattle.layout.proofs.laying.lay_core.Tie as tie
 
 abbrev Inv-loop : tie.InvT-loop
-Inv-loop table₀ units frame tasks core at first from count₀ t₀ table count t = (t ≤ tasks) × LaidTo frame tasks units core at first from table₀ t count table
+Inv-loop table₀ units frame tasks on count₀ t₀ table count t = (t ≤ tasks) × LaidTo frame tasks units on table₀ t count table
 
 abbrev μ-loop : tie.MeasureT-loop
-μ-loop table₀ units frame tasks core at first from count₀ t₀ table count t = tasks - t
+μ-loop table₀ units frame tasks on count₀ t₀ table count t = tasks - t
 
 loop-holds : tie.Need-loop-holds Inv-loop μ-loop
 loop-holds c = search (laid-begin, needs)
 
 lay-task-requires : tie.Need-lay-task-requires Inv-loop μ-loop
-lay-task-requires c κs = laid-asks _ _ _ _ _ _ _ _ _ _ _ (c .before .before .before .before .pre .0) (c .before .before .before .before .pre .1) (omega arith) (c .before .before .loop .inv .1)
+lay-task-requires c κs = laid-asks _ _ _ _ _ _ _ _ (c .before .before .before .before .pre .0) (c .before .before .before .before .pre .1) (omega arith) (c .before .before .loop .inv .1)
 
 add-t : tie.Need-add-t Inv-loop μ-loop
 add-t c = search needs
@@ -32,7 +32,7 @@ same-length : tie.Need-same-length Inv-loop μ-loop
 same-length c = search needs
 
 returns : tie.Need-returns Inv-loop μ-loop
-returns c = laid-done _ _ _ _ _ _ _ _ _ _ _ (c .before .loop .inv .0) (omega arith) (c .before .loop .inv .1)
+returns c = laid-done _ _ _ _ _ _ _ _ (c .before .loop .inv .0) (omega arith) (c .before .loop .inv .1)
 
 pub lay-core-spec : {M : Type 1} → statement M
 lay-core-spec =

@@ -73,8 +73,8 @@ module _ (F m : ℕ) (x : ℕ → ℕ → ℕ) where
   counted-done t n u a b h =
       record { rows = most-done F (rowOf m x) t n a b (h .rows); used = sum-done (usedOf m x) u t n (h .used) a b; few = omega (arith, h .few) }
 
-  pub counted-above : (t n u most s : ℕ) → t < n → most ≡ F → s ≡ rowOf m x t → most < s → AtMost F n (rowOf m x) → ⊥
-  counted-above t n u most s l e d b = most-above F (rowOf m x) t n s most l e d b
+  pub counted-above : (t n most s : ℕ) → t < n → most ≡ F → s ≡ rowOf m x t → most < s → AtMost F n (rowOf m x) → ⊥
+  counted-above t n most s l e d b = most-above F (rowOf m x) t n s most l e d b
 
 -- the parts together
 module _ (F n m : ℕ) (x : ℕ → ℕ → ℕ) (room : ℕ) where

@@ -22,7 +22,7 @@ same-length c = search needs
 
 returns-2 : tie.Need-returns-2
 returns-2 c =
-    let s = c .before .before .before .before in laid-by _ _ _ _ _ _ _ (told-yes (s .before .units-fit .ensures) (s .if1 .left)) (c .before .before .lay-all .ensures)
+    let s = c .before .before .before .before in laid-by _ _ _ _ _ _ _ (s .before .units-fit .ensures) (s .if1 .left) (c .before .before .lay-all .ensures)
 
 pub lay-out-spec : {M : Type 1} → statement M
 lay-out-spec =

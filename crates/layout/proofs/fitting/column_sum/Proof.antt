@@ -2,7 +2,7 @@
 -- Assumes nothing.
 use borrow.Author.Needs.{needs}
 use mathlib.Core.Path.{_≡_}
-use Prim.Native.Nat.{_-_, _*_, _≤_}
+use Prim.Native.Nat.{_-_, _*_, _^_, _≤_}
 use Rattle.rules.specs.Sum.{sumTo}
 use Rattle.stretches.specs.Cell.{cell}
 use Rattle.sums.proofs.SumLoops.{sum-none, sum-more, sum-done}
@@ -10,7 +10,7 @@ use Rattle.layout.proofs.fitting.column_sum.Statement.{statement}
 use Rattle.layout.proofs.fitting.column_sum.Tie as tie
 
 abbrev Inv-loop : tie.InvT-loop
-Inv-loop units core tasks sum₀ i₀ sum i = (i ≤ tasks) × (sum ≡ sumTo i (λ k. cell units k core)) × (sum ≤ i * 4294967295)
+Inv-loop units core tasks sum₀ i₀ sum i = (i ≤ tasks) × (sum ≡ sumTo i (λ k. cell units k core)) × (sum ≤ i * 2 ^ 32)
 
 abbrev μ-loop : tie.MeasureT-loop
 μ-loop units core tasks sum₀ i₀ sum i = tasks - i

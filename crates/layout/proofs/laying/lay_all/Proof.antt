@@ -16,7 +16,10 @@ same-length : tie.Need-same-length
 same-length c = search needs
 
 returns : tie.Need-returns
-returns c = out-done _ _ _ (c .before .before .before .before .before .before .before .before .before .before .args .units .now) _ (c .before .before .before .before .before .before .before .before .before .before .pre) _ _ _ (c .before .before .before .before .before .before .walk .ensures) _ (c .before .before .before .before .before .before .before .before .before .before .args .table .now) (c .before .before .lay-cores .last .0) (c .before .before .lay-cores .ensures)
+returns c =
+    let w = c .before .before .before .before .before .before in
+    let s = w .before .before .before .before in
+    out-done _ _ _ (s .args .units .now) _ (s .pre) _ _ _ (w .walk .ensures) _ (s .args .table .now) (c .before .before .lay-cores .last .0) (c .before .before .lay-cores .ensures)
 
 pub lay-all-spec : {M : Type 1} → statement M
 lay-all-spec = tie.close (tie.spec walk-requires lay-cores-requires same-length returns)

@@ -27,7 +27,9 @@ same-length : tie.Need-same-length
 same-length c = search needs
 
 returns : tie.Need-returns
-returns c = insert-done _ _ _ _ _ _ _ _ _ _ (c .before .before .before .before .before .before .before .before .before .before .before .pre .1) (c .before .before .before .before .before .before .before .before .place-of .ensures) (c .before .before .before .before .before .before .open-gap .ensures) (c .before .before .write-piece .ensures)
+returns c =
+    let p = c .before .before .before .before .before .before .before .before in
+    insert-done _ _ _ _ _ _ _ _ _ _ (p .before .before .before .pre .1) (p .place-of .ensures) (c .before .before .before .before .before .before .open-gap .ensures) (c .before .before .write-piece .ensures)
 
 pub insert-piece-spec : {M : Type 1} → statement M
 insert-piece-spec =

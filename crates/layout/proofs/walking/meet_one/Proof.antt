@@ -39,7 +39,7 @@ element-copy-out-at : tie.Need-element-copy-out-at
 element-copy-out-at c = search needs
 
 ahead-on-core-requires : tie.Need-ahead-on-core-requires
-ahead-on-core-requires c κs = ahead-asks _ _ _ _ _ _ _ _ (c .before .before .before .before .before .before .pre .1) (c .before .before .before .before .before .before .pre .0)
+ahead-on-core-requires c κs = let p = c .before .before .before .before .before .before .pre in ahead-asks _ _ _ _ _ _ _ _ (p .1) (p .0)
 
 add-at : tie.Need-add-at
 add-at c = at-fits _ _ _ _ 0 _ _ _ (c .before .before .before .before .before .before .before .pre .1) _ (c .ahead-on-core .ensures .1)
@@ -48,10 +48,15 @@ with-task-requires : tie.Need-with-task-requires
 with-task-requires c κs = search needs
 
 reach-cores-requires : tie.Need-reach-cores-requires
-reach-cores-requires c κs = reach-asks _ _ _ _ _ _ _ _ (c .before .before .before .before .before .before .before .before .before .before .pre .1) _ (c .before .before .before .before .before .before .before .before .before .before .pre .0) (c .before .before .before .ahead-on-core .ensures .1)
+reach-cores-requires c κs =
+    let p = c .before .before .before .before .before .before .before .before .before .before .pre in reach-asks _ _ _ _ _ _ _ _ (p .1) _ (p .0) (c .before .before .before .ahead-on-core .ensures .1)
 
 returns-3 : tie.Need-returns-3
-returns-3 c = met-new _ _ _ _ _ _ _ _ (c .before .before .before .before .before .before .before .before .before .before .before .pre .1) _ _ _ _ _ _ (c .before .before .before .before .before .before .before .before .before .before .before .pre .0) (c .before .before .before .before .before .before .before .before .before .if1 .left) (c .before .before .before .before .before .before .before .before .task-in .ensures .0) (c .before .before .before .before .before .before .before .before .task-in .ensures .1) (c .before .before .before .before .before .before .before .if2 .left) (c .before .before .before .before .ahead-on-core .ensures .0) (c .before .before .before .with-task .ensures) (c .reach-cores .ensures)
+returns-3 c =
+    let a = c .before .before .before .before in
+    let t = a .before .before .before .before in
+    let p = t .before .before .before .pre in
+    met-new _ _ _ _ _ _ _ _ (p .1) _ _ _ _ _ _ (p .0) (t .before .if1 .left) (t .task-in .ensures .0) (t .task-in .ensures .1) (a .before .before .before .if2 .left) (a .ahead-on-core .ensures .0) (c .before .before .before .with-task .ensures) (c .reach-cores .ensures)
 
 pub meet-one-spec : {M : Type 1} → statement M
 meet-one-spec =

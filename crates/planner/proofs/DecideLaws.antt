@@ -17,9 +17,10 @@ use Rattle.rules.specs.declared.Planned.{Planned}
 use Rattle.stretches.specs.Cell.{cell}
 use Rattle.forest.specs.Peeled.{Peeled}
 use Rattle.forest.specs.Ring.{Kept}
-use Rattle.planner.specs.Laid.{Fits, LayAnswer, laid, unfit}
-use Rattle.planner.specs.declared.stub.Laid.{Laid}
-use Rattle.planner.specs.declared.stub.Laid.the-variants.{Pieces, Unfit}
+use Rattle.layout.specs.Laid.{Fits, LayAnswer}
+use Rattle.layout.specs.declared.Laid.{Laid}
+use Rattle.layout.specs.declared.Laid.the-variants.{Pieces, Unfit}
+use Rattle.layout.proofs.Answered.{fits-laid, fits-unfit}
 use Rattle.planner.specs.Fill.{FillReady}
 use Rattle.planner.specs.Filled.{WholeBy, ShortBy}
 use Rattle.tests.specs.Given.{Admitted}
@@ -32,17 +33,6 @@ use Rattle.tests.proofs.PassedLaws.{passed-ready}
 piecesOf : Laid → ℕ
 piecesOf (Pieces r) = r
 piecesOf Unfit = 0
-
-laid-where-fits : {F n m : ℕ} {units before after : List ℕ} {r : Laid} → LayAnswer F n m units before r after → Fits F n m (cell units) (length before / 4)
-    → (r ≡ Pieces (length (tableOf F n m (cell units)))) × (after ≡ numbersOf (tableOf F n m (cell units)) ++ drop (4 * length (tableOf F n m (cell units))) before)
-laid-where-fits (laid f a b) g = (a, b)
-laid-where-fits (unfit n a b) g = absurd (n g)
-
-never-unfit : {F n m : ℕ} {units before after : List ℕ} → LayAnswer F n m units before Unfit after → Fits F n m (cell units) (length before / 4) → ⊥
-never-unfit a g = let e = laid-where-fits a g .0 in clash e
-  where
-    clash : {k : ℕ} → Unfit ≡ Pieces k → ⊥
-    clash e = let z : _≡_ {A = ℕ} 0 1 = cc in omega arith
 
 module _ (F m : ℕ) (budgets masks table : List ℕ) (d : Admitted F m budgets masks table) where
   -- no units yet
@@ -79,10 +69,10 @@ module _ (F m : ℕ) (budgets masks table : List ℕ) (d : Admitted F m budgets 
 
       pub settled-by : (r : ℕ) (now : List ℕ) → LayAnswer F (length budgets) m after table (Pieces r) now → Settled F m budgets masks table r now (cell after)
       unfolding piecesOf
-      settled-by r now a = let l = laid-where-fits a layout-fits in settled-at r now (ap piecesOf (l .0)) (l .1)
+      settled-by r now a = let l = fits-laid F (length budgets) m after table layout-fits a in settled-at r now (ap piecesOf (l .0)) (l .1)
 
       pub settled-never : (now : List ℕ) → LayAnswer F (length budgets) m after table Unfit now → Settled F m budgets masks table 0 now (cell after)
-      settled-never now a = absurd (never-unfit a layout-fits)
+      settled-never now a = absurd (fits-unfit F (length budgets) m after table layout-fits a refl)
 
   pub decided-whole : (r : ℕ) (now : List ℕ) (x : ℕ → ℕ → ℕ) → Settled F m budgets masks table r now x
       → Decided F m budgets masks table (record { answer = Accepted; pieces = r }) now

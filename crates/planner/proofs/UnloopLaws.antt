@@ -7,8 +7,8 @@ use borrow.Author.Count.{below-none, below-more}
 use Rattle.rules.specs.Sum.{sumTo}
 use Rattle.rules.specs.Sets.{has}
 use Rattle.forest.specs.Stripping.{Stripping, Fast}
-use Rattle.forest.specs.Ring.{Ring, Least, Kept}
-use Rattle.planner.specs.Shifts.{Named, ShiftReady}
+use Rattle.forest.specs.Ring.{Ring, Kept}
+use Rattle.planner.specs.Shifts.{Named}
 use Rattle.forest.specs.Path.{FirstThere}
 use Rattle.planner.specs.Seeking.{SeekReady}
 use Rattle.forest.proofs.Strip.{strip-fewer}

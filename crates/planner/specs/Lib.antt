@@ -1,7 +1,6 @@
 pub mod Back
 pub mod Fill
 pub mod Filled
-pub mod Laid
 pub mod Loose
 pub mod Plan
 pub mod Search

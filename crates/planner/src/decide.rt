@@ -1,12 +1,11 @@
 // A set that passed the tests: the greatest allocation decides between a table and the overloaded group.
 use crate::flow::Filled;
 use crate::flow::fill;
-use crate::stub::Laid;
-use crate::stub::lay_out;
 use crate::unloop::unloop;
+use layout::Laid;
+use layout::lay_out;
 use rules::Answer;
 use rules::Planned;
-ghost use Prim.Native.Nat.{_≤_};
 ghost use Rattle.rules.specs.Plan.{Decided};
 ghost use Rattle.stretches.specs.Cell.{cell};
 ghost use Rattle.planner.specs.Filled.{WholeBy};

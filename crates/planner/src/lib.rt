@@ -6,7 +6,6 @@ mod peel;
 mod search;
 mod shift;
 mod steps;
-mod stub;
 mod unloop;
 
 use rules::Planned;

@@ -5,7 +5,7 @@ use sets::with_core;
 use sets::with_task;
 ghost use mathlib.Core.Path.{_≡_};
 ghost use mathlib.Core.Bool.{true, false};
-ghost use Prim.Native.Nat.{ℕ, _-_, _*_, _≤_, _<_};
+ghost use Prim.Native.Nat.{_-_, _*_, _≤_, _<_};
 ghost use Rattle.rules.specs.Sum.{positive};
 ghost use Rattle.stretches.specs.Cell.{cell};
 ghost use Rattle.forest.specs.Stripping.{links, Fast, Stripping};

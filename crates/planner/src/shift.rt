@@ -1,7 +1,7 @@
 // Loops are removed by shifting units round the cycle, with all task and core sums kept (001, section 5). The cycle stands in the places
 // lo to hi - 1 of two lists: each task there has units on its core and on the core before it, round the cycle.
 ghost use mathlib.Core.Path.{_≡_};
-ghost use Prim.Native.Nat.{ℕ, _+_, _^_, _≤_, _<_};
+ghost use Prim.Native.Nat.{_+_, _^_, _≤_, _<_};
 ghost use lib.ListN.{length};
 ghost use Rattle.rules.specs.Plan.{at};
 ghost use Rattle.stretches.specs.Cell.{cell};

@@ -1,6 +1,6 @@
 // The elementary steps: units are placed on a core, or taken from it, and what lacks and what room is left are kept beside them.
 ghost use mathlib.Core.Path.{_≡_};
-ghost use Prim.Native.Nat.{_+_, _*_, _^_, _≤_, _<_, min};
+ghost use Prim.Native.Nat.{_+_, _*_, _≤_, _<_, min};
 ghost use Rattle.rules.specs.Plan.{at};
 ghost use Rattle.stretches.specs.Cell.{cell};
 ghost use Rattle.planner.specs.Fill.{raise, lower};

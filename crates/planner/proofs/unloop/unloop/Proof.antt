@@ -4,10 +4,9 @@ use lib.ListN.{length}
 use Rattle.stretches.specs.Cell.{cell}
 use Rattle.forest.specs.Stripping.{Stripping}
 use Rattle.forest.specs.Ring.{Kept, edges}
-use Rattle.forest.proofs.Strip.{strip-none}
+use Rattle.forest.proofs.Strip.{strip-none, all-gone}
 use Rattle.forest.proofs.Shifting.{kept-none, kept-more}
 use Rattle.planner.proofs.UnloopLaws.{kept-small, kept-strip, seek-ready}
-use Rattle.forest.proofs.Strip.{all-gone}
 use borrow.Author.Needs.{needs}
 use Rattle.planner.proofs.unloop.unloop.Statement.{statement}
 use Rattle.planner.proofs.unloop.unloop.Tie as tie

@@ -1,0 +1,9 @@
+pub mod AheadLaws
+pub mod Answered
+pub mod FittingLaws
+pub mod GapLaws
+pub mod InsertLaws
+pub mod LayLaws
+pub mod LayOutLaws
+pub mod Unique
+pub mod WalkLaws

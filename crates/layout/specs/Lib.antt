@@ -1,0 +1,4 @@
+pub mod Fitting
+pub mod Laid
+pub mod Pieces
+pub mod Walking

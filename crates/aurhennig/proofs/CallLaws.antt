@@ -17,9 +17,9 @@ use Rattle.rules.specs.Line.{lineFrame, lineCores, lineTasks, lineBudgets, line
 use Rattle.rules.specs.LineCall.{lentTable, LinePlanned, LineAnswerAt, CallDone, CallAnswerAt, CallAnswer}
 use Rattle.rules.specs.declared.Answer.the-variants.{BadLine}
 use Rattle.rules.specs.declared.Planned.{Planned}
-use Rattle.aurhennig.specs.Pasted.{pasted}
+use Rattle.fields.specs.Pasted.{pasted}
 use Rattle.aurhennig.specs.Decoded.{Tasked}
-use Rattle.aurhennig.proofs.PastedLaws.{pasted-front}
+use Rattle.fields.proofs.PastedLaws.{pasted-front}
 use Rattle.aurhennig.proofs.DecodeLaws.{length-tasks}
 use Rattle.rules.proofs.Numbers.{length-numbers}
 

@@ -2,8 +2,8 @@
 use crate::decode::read_header;
 use crate::decode::read_tasks;
 use crate::decode::well_written;
+use crate::encode::put;
 use crate::encode::put_answer;
-use crate::fields::put_field;
 ghost use mathlib.Core.Path.{_≡_};
 ghost use mathlib.Core.Bool.{true};
 ghost use mathlib.Core.List.{[]};
@@ -12,14 +12,14 @@ ghost use lib.ListN.{length};
 ghost use Rattle.rules.specs.Line.{answerLine, wellWritten};
 ghost use Rattle.rules.specs.LineCall.{CallAnswer, CallDone};
 ghost use Rattle.rules.specs.declared.Answer.the-variants.{BadLine};
-ghost use Rattle.aurhennig.specs.Pasted.{pasted};
+ghost use Rattle.fields.specs.Pasted.{pasted};
 
 // Answer 12.
 fn put_bad_line(output: &mut [u8]) -> usize
     requires { ⌜ 1906 ≤ length (now output) ⌝ }
     ensures { λ r. ⌜ (now (output .exit) ≡ pasted (now (output .entry)) 0 (answerLine BadLine [])) × (r ≡ length (answerLine BadLine [])) ⌝ }
 {
-    put_field(output, 0, 1, 12);
+    put(output, 0, 1, 12);
     2
 }
 

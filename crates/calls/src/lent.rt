@@ -1,12 +1,12 @@
 // What a line lends to its call, and the call's answer line.
 use crate::answers::put_answer;
 use crate::answers::put_bad_line;
-use crate::digits::all_digits;
-use crate::fields::count_at;
-use crate::fields::number_at;
-use crate::fields::read_releases;
-use crate::fields::read_words;
-use crate::fields::word_at;
+use crate::words::count_at;
+use crate::words::read_releases;
+use crate::words::read_words;
+use crate::words::word_at;
+use fields::all_digits;
+use fields::field_at;
 use rules::Answer;
 ghost use mathlib.Core.Path.{_≡_};
 ghost use Prim.Native.Nat.{_+_, _*_, _≤_, _<_};
@@ -19,8 +19,8 @@ fn check(line: &[u8], out: &mut [u8]) -> usize
 {
     let count = (line.len() - 18) / 8;
     let mut words = [0u32; 12373];
-    read_words(line, 18, count, &mut words);
-    let answer = table::check_table(word_at(line, 2), word_at(line, 10), &words[..count]);
+    read_words(line, 9, count, &mut words);
+    let answer = table::check_table(word_at(line, 1), word_at(line, 5), &words[..count]);
     put_answer(out, answer, &[0], 0, 1)
 }
 
@@ -31,8 +31,8 @@ fn count_moves(line: &[u8], out: &mut [u8]) -> usize
 {
     let count = (line.len() - 18) / 8;
     let mut words = [0u32; 12373];
-    read_words(line, 18, count, &mut words);
-    let counted = table::count_moves(word_at(line, 2), word_at(line, 10), &words[..count]);
+    read_words(line, 9, count, &mut words);
+    let counted = table::count_moves(word_at(line, 1), word_at(line, 5), &words[..count]);
     let answer = counted.answer;
     put_answer(out, answer, &[counted.moves as u64], 1, 4)
 }
@@ -56,14 +56,14 @@ fn walk_lists(line: &[u8], c: Counts, finishes: &mut [u64]) -> Answer
     let mut words = [0u32; 12370];
     let mut releases = [0u64; 6185];
     let mut units = [0u32; 12370];
-    read_words(line, 42, n, &mut words);
-    read_releases(line, 42 + 8 * n, jobs, &mut releases);
-    read_words(line, 42 + 8 * n + 16 * jobs, asked, &mut units);
+    read_words(line, 21, n, &mut words);
+    read_releases(line, 21 + 4 * n, jobs, &mut releases);
+    read_words(line, 21 + 4 * n + 8 * jobs, asked, &mut units);
     walker::walk(
-        word_at(line, 2),
-        word_at(line, 10),
+        word_at(line, 1),
+        word_at(line, 5),
         &words[..n],
-        word_at(line, 18),
+        word_at(line, 9),
         &releases[..jobs],
         &units[..asked],
         &mut finishes[..room],
@@ -78,10 +78,10 @@ fn walk(line: &[u8], out: &mut [u8]) -> usize
     if line.len() < 42 {
         return put_bad_line(out);
     }
-    let words = count_at(line, 26);
-    let releases = count_at(line, 30);
-    let units = count_at(line, 34);
-    let room = count_at(line, 38);
+    let words = count_at(line, 13);
+    let releases = count_at(line, 15);
+    let units = count_at(line, 17);
+    let room = count_at(line, 19);
     if 42 + 8 * words + 16 * releases + 8 * units != line.len() {
         return put_bad_line(out);
     }
@@ -117,7 +117,7 @@ pub(crate) fn answer_line(line: &[u8], out: &mut [u8]) -> usize
     if !all_digits(line) {
         return put_bad_line(out);
     }
-    let call = number_at(line, 0, 2);
+    let call = field_at(line, 0, 1);
     match call {
         1 => check(line, out),
         2 => count_moves(line, out),

@@ -1,29 +1,29 @@
--- `calls::fields::read_releases` meets its contract. The measure is how many releases are left.
+-- `calls::words::read_releases` meets its contract. The measure is how many releases are left.
 -- Assumes nothing.
 use mathlib.Core.Path.{_≡_}
 use Prim.Native.Nat.{_≤_, _-_}
 use lib.ListN.{length}
 use borrow.Author.Needs.{needs}
-use Rattle.calls.proofs.fields.read_releases.Statement.{statement}
-use Rattle.calls.proofs.fields.read_releases.Tie as tie
+use Rattle.calls.proofs.words.read_releases.Statement.{statement}
+use Rattle.calls.proofs.words.read_releases.Tie as tie
 
 abbrev Inv-loop : tie.InvT-loop
-Inv-loop line from count releases₀ i₀ releases i = (i ≤ count) × (length releases ≡ length releases₀)
+Inv-loop line at count releases₀ i₀ releases i = (i ≤ count) × (length releases ≡ length releases₀)
 
 abbrev μ-loop : tie.MeasureT-loop
-μ-loop line from count releases₀ i₀ releases i = count - i
+μ-loop line at count releases₀ i₀ releases i = count - i
 
 loop-holds : tie.Need-loop-holds Inv-loop μ-loop
 loop-holds c = search needs
 
-mul-number-at : tie.Need-mul-number-at Inv-loop μ-loop
-mul-number-at c = search needs
+mul-field-at : tie.Need-mul-field-at Inv-loop μ-loop
+mul-field-at c = search needs
 
-add-number-at : tie.Need-add-number-at Inv-loop μ-loop
-add-number-at c = search needs
+add-field-at : tie.Need-add-field-at Inv-loop μ-loop
+add-field-at c = search needs
 
-number-at-requires : tie.Need-number-at-requires Inv-loop μ-loop
-number-at-requires c κs = search needs
+field-at-requires : tie.Need-field-at-requires Inv-loop μ-loop
+field-at-requires c κs = search needs
 
 mul-releases : tie.Need-mul-releases Inv-loop μ-loop
 mul-releases c = search needs
@@ -53,9 +53,9 @@ read-releases-spec =
     Inv-loop
     μ-loop
     loop-holds
-    mul-number-at
-    add-number-at
-    number-at-requires
+    mul-field-at
+    add-field-at
+    field-at-requires
     mul-releases
     slice-write-releases
     add-i

@@ -8,6 +8,12 @@ ghost use lib.ListN.{length};
 ghost use Rattle.rules.specs.Line.{wellWritten};
 ghost use Rattle.aurhennig.specs.Decoded.{Headed, TaskAt, Tasked};
 
+// "So is any of more than 3,072 digits."
+const MAX_DIGITS: usize = 3072;
+
+// The digits of the fields before the tasks: "fewer than 12 digits" hold no task count.
+const HEADER_DIGITS: usize = 12;
+
 // The fields before the tasks.
 pub(crate) struct Header {
     pub(crate) frame: u32,
@@ -54,7 +60,7 @@ pub(crate) fn well_written(line: &[u8]) -> bool
     ensures { λ r. ⌜ r ≡ wellWritten (now (line .entry)) ⌝ }
 {
     let n = line.len();
-    if 3072 < n {
+    if MAX_DIGITS < n {
         return false;
     }
     if !all_digits(line) {
@@ -63,7 +69,7 @@ pub(crate) fn well_written(line: &[u8]) -> bool
     if n % 2 != 0 {
         return false;
     }
-    if n < 12 {
+    if n < HEADER_DIGITS {
         return false;
     }
     let h = read_header(line);

@@ -3,6 +3,7 @@ use rules::Answer;
 ghost use mathlib.Core.Path.{_≡_};
 ghost use Prim.Native.Nat.{_+_, _*_, _≤_};
 ghost use lib.ListN.{length};
+ghost use Rattle.rules.specs.Sizes.{leastOutput, maxPieces};
 ghost use Rattle.rules.specs.Piece.{firstPieces, pieceAt};
 ghost use Rattle.rules.specs.Line.{answerLine, answerRest, bytes, pieceLine, pieceLines};
 ghost use Rattle.fields.specs.Pasted.{pasted};
@@ -34,7 +35,7 @@ fn put_piece(out: &mut [u8], at: usize, table: &[u32], k: usize)
 
 // The pieces of an accepted set, after the number and the piece count.
 fn put_pieces(out: &mut [u8], table: &[u32], pieces: usize)
-    requires { ⌜ (6 + 20 * pieces ≤ length (now out)) × (4 * pieces ≤ length (now table)) × (pieces ≤ 95) ⌝ }
+    requires { ⌜ (6 + 20 * pieces ≤ length (now out)) × (4 * pieces ≤ length (now table)) × (pieces ≤ maxPieces) ⌝ }
     ensures { λ _. ⌜ now (out .exit) ≡ pasted (now (out .entry)) 6 (pieceLines (firstPieces (now (table .entry)) pieces)) ⌝ }
 {
     let mut i = 0;
@@ -47,7 +48,7 @@ fn put_pieces(out: &mut [u8], table: &[u32], pieces: usize)
 // What stands after the number: "for 0 the piece count (2) and per piece ..; for 4 and 5 the task (1); for 7 the group (8, bit i for task i)
 // and its cores (2); otherwise nothing more". Hands back where the line ends.
 fn put_rest(answer: Answer, pieces: usize, table: &[u32], out: &mut [u8]) -> usize
-    requires { ⌜ (1906 ≤ length (now out)) × (4 * pieces ≤ length (now table)) × (pieces ≤ 95) ⌝ }
+    requires { ⌜ (leastOutput ≤ length (now out)) × (4 * pieces ≤ length (now table)) × (pieces ≤ maxPieces) ⌝ }
     ensures { λ r. ⌜ (now (out .exit) ≡ pasted (now (out .entry)) 2 (answerRest answer (firstPieces (now (table .entry)) pieces))) × (r ≡ 2 + length (answerRest answer (firstPieces (now (table .entry)) pieces))) ⌝ }
 {
     match answer {
@@ -75,7 +76,7 @@ fn put_rest(answer: Answer, pieces: usize, table: &[u32], out: &mut [u8]) -> usi
 
 // The whole line at the front of the output: what lies beyond keeps.
 pub(crate) fn put_answer(answer: Answer, pieces: usize, table: &[u32], out: &mut [u8]) -> usize
-    requires { ⌜ (1906 ≤ length (now out)) × (4 * pieces ≤ length (now table)) × (pieces ≤ 95) ⌝ }
+    requires { ⌜ (leastOutput ≤ length (now out)) × (4 * pieces ≤ length (now table)) × (pieces ≤ maxPieces) ⌝ }
     ensures { λ r. ⌜ (now (out .exit) ≡ pasted (now (out .entry)) 0 (answerLine answer (firstPieces (now (table .entry)) pieces))) × (r ≡ length (answerLine answer (firstPieces (now (table .entry)) pieces))) ⌝ }
 {
     put(out, 0, 1, rules::number(answer) as u64);

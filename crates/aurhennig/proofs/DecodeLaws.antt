@@ -1,6 +1,6 @@
 -- Laws on a decoded line: the line test, the fields before the tasks, and the tasks' fields.
 -- Assumes nothing.
-use mathlib.Core.Path.{_≡_, refl, sym, subst, _∙_, ap}
+use mathlib.Core.Path.{_≡_, refl, subst, _∙_, ap}
 use mathlib.Core.Bool.{Bool, true, false, _&&_}
 use mathlib.Core.List.{List, _++_, append-assoc}
 use Prim.Native.Nat.{ℕ, zero, suc, _+_, _*_, _%_, _^_, _≤_, _<_}

@@ -3,16 +3,16 @@
 use mathlib.Core.Path.{_≡_, refl, sym, _∙_, ap}
 use mathlib.Core.Bool.{Bool, true, false, _&&_}
 use mathlib.Core.List.{List}
-use Prim.Native.Nat.{ℕ, zero, suc, _+_, _-_, _*_, _/_, _^_, _≤_, _<_}
+use Prim.Native.Nat.{ℕ, zero, suc, _+_, _*_, _/_, _^_, _≤_, _<_}
 use native.Mathlib.Nat.{lt-of-lt-of-le, pow-le-pow-right, pow-suc}
 use native.Mathlib.Numerals.{add-one}
 use native.Mathlib.Decide.{decLe}
 use native.Mathlib.Omega.{arith}
 use lib.Dec.{leb}
 use lib.ListN.{length, getD}
-use borrow.Author.Tests.{le-leb, lt-leb, leb-true}
+use borrow.Author.Tests.{le-leb, lt-leb, leb-true, leb-false}
 use Rattle.rules.specs.Line.{digitValue, digitsAt, field}
-use Rattle.fields.specs.Held.{holdsField, heldField, pastField}
+use Rattle.fields.specs.Held.{endsBy, holdsField, heldField, pastField}
 use Rattle.fields.proofs.DigitLaws.{value-below}
 
 module _ (l : List ℕ) (p : ℕ) where
@@ -43,16 +43,25 @@ module _ (l : List ℕ) (p : ℕ) where
   pub digits-room : (v i c : ℕ) → v ≡ digitsAt l p i → i < c → c ≤ 16 → v < 2 ^ 60
   digits-room v i c e h g = rw e (lt-of-lt-of-le (digits-below i) (pow-le-pow-right {n = 16} (omega arith) {i = i} {j = 15} (omega arith)))
 
--- whether n places from p on end at e or before, the sum not made
+-- n places from p on, and the end e
 module _ (p n e : ℕ) where
-  pub ends-none : e < n → false ≡ leb (p + n) e
-  ends-none h = sym (lt-leb (p + n) e (omega arith))
+  pub ends-within : p + n ≤ e → true ≡ endsBy p n e
+  unfolding endsBy
+  ends-within h = sym (le-leb (p + n) e h)
 
-  pub ends-late : n ≤ e → e - n < p → false ≡ leb (p + n) e
-  ends-late h g = sym (lt-leb (p + n) e (omega arith))
+  pub ends-late : e < p + n → false ≡ endsBy p n e
+  unfolding endsBy
+  ends-late h = sym (lt-leb (p + n) e h)
 
-  pub ends-within : n ≤ e → p ≤ e - n → true ≡ leb (p + n) e
-  ends-within h g = sym (le-leb (p + n) e (omega arith))
+  -- what the test says
+  module _ (r : Bool) (test : r ≡ endsBy p n e) where
+    pub ends-told : r ≡ true → p + n ≤ e
+    unfolding endsBy
+    ends-told h = leb-true (p + n) e (sym test ∙ h)
+
+    pub ends-denied : r ≡ false → e < p + n
+    unfolding endsBy
+    ends-denied h = leb-false (p + n) e (sym test ∙ h)
 
 -- places in a line of n digits: a byte has two of them
 halved : (a n : ℕ) → leb a (n / 2) ≡ leb (2 * a) n
@@ -68,8 +77,8 @@ module _ (l : List ℕ) (p w : ℕ) where
   unfolding holdsField
   holds-wide a = simp (lt-leb w 8 a)
 
-  pub holds-ends : (r : Bool) → w ≤ 8 → r ≡ leb (p + w) (length l / 2) → r ≡ holdsField l p w
-  unfolding holdsField
+  pub holds-ends : (r : Bool) → w ≤ 8 → r ≡ endsBy p w (length l / 2) → r ≡ holdsField l p w
+  unfolding holdsField endsBy
   holds-ends r a e = e ∙ halved (p + w) (length l) ∙ simp (le-leb w 8 a)
 
   holds-here : w ≤ 8 → 2 * (p + w) ≤ length l → holdsField l p w ≡ true

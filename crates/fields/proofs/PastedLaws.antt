@@ -1,13 +1,11 @@
 -- Laws on bytes written into an output: digits from the last to the first, one run of bytes after another, and a field.
 -- Assumes nothing.
 use mathlib.Core.Path.{_≡_, refl, sym, _∙_, ap}
-use mathlib.Core.Bool.{Bool, true, false}
 use mathlib.Core.List.{List, [], _∷_, _++_, append-assoc}
 use Prim.Native.Nat.{ℕ, zero, suc, _+_, _-_, _*_, _/_, _%_, _≤_, _<_}
 use native.Mathlib.Numerals.{unary-clauses}
 use native.Mathlib.Nat.{add-assoc, zero-add}
 use native.Mathlib.Omega.{arith}
-use lib.Dec.{leb}
 use lib.ListN.{length, take, drop, set, length-set, length-append, length-take, take-append-drop}
 use lib.Seq.{take-set-le, drop-cons, drop-set-lt, getD-set-same, drop-append-add, drop-drop, take-at}
 use borrow.Author.Tests.{le-leb, lt-leb}
@@ -86,16 +84,10 @@ module _ (o : List ℕ) (p w v : ℕ) where
   unfolding putField hasRoom
   put-wide a = simp (lt-leb w 8 a)
 
-  module _ (few : w ≤ 8) (r : Bool) (test : r ≡ leb (p + 2 * w) (length o)) where
-    pub put-none : r ≡ false → o ≡ putField o p w v
-    unfolding putField hasRoom
-    put-none t = simp (le-leb w 8 few, ← test, t)
+  pub put-out : w ≤ 8 → length o < p + 2 * w → o ≡ putField o p w v
+  unfolding putField hasRoom
+  put-out a b = simp (le-leb w 8 a, lt-leb (p + 2 * w) (length o) b)
 
-    pub put-here : (n : List ℕ) → r ≡ true → n ≡ pasted o p (bytes w v) → n ≡ putField o p w v
-    unfolding putField hasRoom
-    put-here n t e = simp (le-leb w 8 few, ← test, t, e)
-
-  -- what a caller reads of it
   pub put-fits : w ≤ 8 → p + 2 * w ≤ length o → putField o p w v ≡ pasted o p (bytes w v)
   unfolding putField hasRoom
   put-fits a b = simp (le-leb w 8 a, le-leb (p + 2 * w) (length o) b)

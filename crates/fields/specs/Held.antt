@@ -7,6 +7,10 @@ use lib.Dec.{leb}
 use lib.ListN.{length}
 use Rattle.rules.specs.Line.{field}
 
+-- n places from p on end at e or before
+unfoldable pub endsBy : ℕ → ℕ → ℕ → Bool
+endsBy p n e = leb (p + n) e
+
 -- the field of w bytes at byte p has at most 8 bytes, and the line holds it
 unfoldable pub holdsField : List ℕ → ℕ → ℕ → Bool
 holdsField l p w = leb w 8 && leb (2 * (p + w)) (length l)

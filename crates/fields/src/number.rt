@@ -2,14 +2,13 @@
 use crate::digits::digit_value;
 ghost use mathlib.Core.Path.{_≡_};
 ghost use Prim.Native.Nat.{_+_, _*_, _≤_};
-ghost use lib.Dec.{leb};
 ghost use lib.ListN.{length};
 ghost use Rattle.rules.specs.Line.{digitsAt};
-ghost use Rattle.fields.specs.Held.{heldField, holdsField, pastField};
+ghost use Rattle.fields.specs.Held.{endsBy, heldField, holdsField, pastField};
 
 // Whether `size` places from `at` on end at `end` or before. The sum is not made, since it might not fit.
 pub(crate) fn ends_by(at: usize, size: usize, end: usize) -> bool
-    ensures { λ r. ⌜ r ≡ leb (at + size) end ⌝ }
+    ensures { λ r. ⌜ r ≡ endsBy at size end ⌝ }
 {
     if end < size {
         return false;

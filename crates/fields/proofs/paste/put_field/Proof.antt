@@ -2,8 +2,9 @@
 -- Assumes nothing.
 use native.Mathlib.Omega.{arith}
 use mathlib.Core.Path.{sym, _∙_}
-use borrow.Author.Tests.{not-true, not-false, leb-true}
-use Rattle.fields.proofs.PastedLaws.{put-wide, put-none, put-here}
+use borrow.Author.Tests.{not-true, not-false}
+use Rattle.fields.proofs.FieldLaws.{ends-told, ends-denied}
+use Rattle.fields.proofs.PastedLaws.{put-wide, put-out, put-fits}
 use borrow.Author.Needs.{needs}
 use Rattle.fields.proofs.paste.put_field.Statement.{statement}
 use Rattle.fields.proofs.paste.put_field.Tie as tie
@@ -18,20 +19,21 @@ ends-by-requires : tie.Need-ends-by-requires
 ends-by-requires c κs = search needs
 
 returns-2 : tie.Need-returns-2
-returns-2 c = put-none _ _ _ _ (omega arith) _ (c .before .ends-by .ensures) (not-true _ (c .if2 .taken))
+returns-2 c = put-out _ _ _ _ (omega arith) (omega (arith, ends-denied _ _ _ _ (c .before .ends-by .ensures) (not-true _ (c .if2 .taken))))
 
 mul-put-digits : tie.Need-mul-put-digits
 mul-put-digits c = search needs
 
 put-digits-requires : tie.Need-put-digits-requires
-put-digits-requires c κs = leb-true _ _ (sym (c .before .before .ends-by .ensures) ∙ not-false _ (c .before .if2 .left))
+put-digits-requires c κs = omega (arith, ends-told _ _ _ _ (c .before .before .ends-by .ensures) (not-false _ (c .before .if2 .left)))
 
 same-length : tie.Need-same-length
 same-length c = search needs
 
 returns-3 : tie.Need-returns-3
 returns-3 c =
-    put-here _ _ _ _ (omega arith) _ (c .before .before .before .before .before .ends-by .ensures) _ (not-false _ (c .before .before .before .before .if2 .left)) (c .before .before .put-digits .ensures)
+    let else = c .before .before .before .before in
+    c .before .before .put-digits .ensures ∙ sym (put-fits _ _ _ _ (omega arith) (omega (arith, ends-told _ _ _ _ (else .before .ends-by .ensures) (not-false _ (else .if2 .left)))))
 
 pub put-field-spec : {M : Type 1} → statement M
 put-field-spec =

@@ -12,13 +12,29 @@ ghost use mathlib.Core.Path.{_≡_};
 ghost use Prim.Native.Nat.{_+_, _*_, _≤_, _<_};
 ghost use lib.ListN.{length};
 
+// The most digits that a line may have; the program keeps one byte more, so that a longer line is seen.
+const MAX_DIGITS: usize = 99002;
+
+// The digits before the words of a table check or a move count, and before a walk's lists.
+const TABLE_HEAD: usize = 18;
+
+const WALK_HEAD: usize = 42;
+
+// Digits of a word, and of a release.
+const WORD: usize = 8;
+
+const RELEASE: usize = 16;
+
+// The most that a field of 2 bytes can count.
+const MOST_FINISHES: usize = 65535;
+
 // The table check: "call (1), F (4 bytes), m (4), then the table's words".
 fn check(line: &[u8], out: &mut [u8]) -> usize
     requires { ⌜ (18 ≤ length (now line)) × (length (now line) ≤ 99002) × (99003 ≤ length (now out)) ⌝ }
     ensures { λ r. ⌜ r ≤ 99002 ⌝ }
 {
-    let count = (line.len() - 18) / 8;
-    let mut words = [0u32; 12373];
+    let count = (line.len() - TABLE_HEAD) / WORD;
+    let mut words = [0u32; (MAX_DIGITS - TABLE_HEAD) / WORD];
     read_words(line, 9, count, &mut words);
     let answer = table::check_table(word_at(line, 1), word_at(line, 5), &words[..count]);
     put_answer(out, answer, &[0], 0, 1)
@@ -29,8 +45,8 @@ fn count_moves(line: &[u8], out: &mut [u8]) -> usize
     requires { ⌜ (18 ≤ length (now line)) × (length (now line) ≤ 99002) × (99003 ≤ length (now out)) ⌝ }
     ensures { λ r. ⌜ r ≤ 99002 ⌝ }
 {
-    let count = (line.len() - 18) / 8;
-    let mut words = [0u32; 12373];
+    let count = (line.len() - TABLE_HEAD) / WORD;
+    let mut words = [0u32; (MAX_DIGITS - TABLE_HEAD) / WORD];
     read_words(line, 9, count, &mut words);
     let counted = table::count_moves(word_at(line, 1), word_at(line, 5), &words[..count]);
     let answer = counted.answer;
@@ -53,9 +69,9 @@ fn walk_lists(line: &[u8], c: Counts, finishes: &mut [u64]) -> Answer
     let jobs = c.releases;
     let asked = c.units;
     let room = c.room;
-    let mut words = [0u32; 12370];
-    let mut releases = [0u64; 6185];
-    let mut units = [0u32; 12370];
+    let mut words = [0u32; (MAX_DIGITS - WALK_HEAD) / WORD];
+    let mut releases = [0u64; (MAX_DIGITS - WALK_HEAD) / RELEASE];
+    let mut units = [0u32; (MAX_DIGITS - WALK_HEAD) / WORD];
     read_words(line, 21, n, &mut words);
     read_releases(line, 21 + 4 * n, jobs, &mut releases);
     read_words(line, 21 + 4 * n + 8 * jobs, asked, &mut units);
@@ -75,17 +91,17 @@ fn walk(line: &[u8], out: &mut [u8]) -> usize
     requires { ⌜ (length (now line) ≤ 99002) × (99003 ≤ length (now out)) ⌝ }
     ensures { λ r. ⌜ r ≤ 99002 ⌝ }
 {
-    if line.len() < 42 {
+    if line.len() < WALK_HEAD {
         return put_bad_line(out);
     }
     let words = count_at(line, 13);
     let releases = count_at(line, 15);
     let units = count_at(line, 17);
     let room = count_at(line, 19);
-    if 42 + 8 * words + 16 * releases + 8 * units != line.len() {
+    if WALK_HEAD + WORD * words + RELEASE * releases + WORD * units != line.len() {
         return put_bad_line(out);
     }
-    let mut finishes = [0u64; 65535];
+    let mut finishes = [0u64; MOST_FINISHES];
     let answer = walk_lists(
         line,
         Counts {
@@ -105,13 +121,13 @@ pub(crate) fn answer_line(line: &[u8], out: &mut [u8]) -> usize
     ensures { λ r. ⌜ r ≤ 99002 ⌝ }
 {
     let n = line.len();
-    if 99002 < n {
+    if MAX_DIGITS < n {
         return put_bad_line(out);
     }
-    if n < 18 {
+    if n < TABLE_HEAD {
         return put_bad_line(out);
     }
-    if n % 8 != 2 {
+    if n % WORD != 2 {
         return put_bad_line(out);
     }
     if !all_digits(line) {

@@ -1,5 +1,5 @@
--- What a walk by hand of a caller needs of `start` and `take`: their contracts, what each says of the reader that it hands back, and how what
--- the line or a reader owns gives what each asks. A caller has the lifetime's token beside it, which comes back after each call.
+-- The calls of `start` and `take` in a walk by hand of a caller, each as one step: `starts` and `takes`. All that they know of the two is that
+-- each meets its contract. What the line or a reader owns gives what a call asks, beside the lifetime's token, which comes back after it.
 -- Assumes nothing.
 use mathlib.Core.Path.{_≡_, refl, ap}
 use Prim.Native.Nat.{ℕ, _<_, _^_}
@@ -59,13 +59,13 @@ module _ {M : Type 1} (𝓤 : URA M) (H : Heap 𝓤) (A : Atoms 𝓤) (mem : Mem
 
   module _ (κ : Lft) where
     -- of what is ensured, the clause alone: neither has a last value
-    abbrev pub Started : RefT (List ℕ) → ℕ → Reader → SProp 𝓤
+    abbrev Started : RefT (List ℕ) → ℕ → Reader → SProp 𝓤
     Started s p r = ensured 𝓤 H A start.ended (start.clauses 𝓤 H A mem run) (κ, tt) (s, (p, tt)) tt r
 
     start-said : (s : RefT (List ℕ)) (p : ℕ) (r : Reader) → ent 𝓤 (Started s p r) (fact 𝓤 (r ≡ started s p))
     start-said s p r = exE 𝓤 _ (λ ws. snd∗ 𝓤 (sem 𝓤 H A (lasts start.ended (κ, tt) (s, (p, tt)) ws)) (fact 𝓤 (r ≡ started s p)))
 
-    abbrev pub Taken : Reader → ℕ → Reader → SProp 𝓤
+    abbrev Taken : Reader → ℕ → Reader → SProp 𝓤
     Taken h n r = ensured 𝓤 H A take.ended (take.clauses 𝓤 H A mem run) (κ, tt) (h, (n, tt)) tt r
 
     take-said : (h : Reader) (n : ℕ) (r : Reader) → ent 𝓤 (Taken h n r) (fact 𝓤 (r ≡ taken h n))
@@ -79,10 +79,10 @@ module _ {M : Type 1} (𝓤 : URA M) (H : Heap 𝓤) (A : Atoms 𝓤) (W : Given
   abbrev pub LineOwn : RefT (List ℕ) → Fml
   LineOwn s = ShrSlice (named 0) κ u8 .own s (lineVal s ∷ [])
 
-  abbrev pub Holder : Reader → Val → Fml
+  abbrev Holder : Reader → Val → Fml
   Holder h u = ReaderAt (κ, tt) .own h (u ∷ [])
 
-  abbrev pub to-start : RefT (List ℕ) → ℕ → Start 𝓤 H A mem run .Ghost
+  abbrev to-start : RefT (List ℕ) → ℕ → Start 𝓤 H A mem run .Ghost
   to-start s p = (((κ, tt), (q, tt), tt, (s, (p, tt)), (lineVal s ∷ [], (vint w64 p ∷ [], tt))), tt)
 
   -- the line is Copy: what it owns is had twice, and one copy is kept
@@ -93,7 +93,7 @@ module _ {M : Type 1} (𝓤 : URA M) (H : Heap 𝓤) (A : Atoms 𝓤) (W : Given
       nothing ! $ owned ! usize (Is usize) (uint-makes 𝓤 H A W w64) p _ (refl, fits) $ fjoin ! $ move ! (1 ∷ 0 ∷ []) $ fjoin ! $
       move ! (2 ∷ 0 ∷ []) $ use2 W (raw (Start 𝓤 H A mem run .pre (to-start s p))) (qed W ((‵ (flft κ q) ⊛ ‵ ftrue) ∷ ‵ (owns (ShrSlice (named 0) κ u8 ∷ usize ∷ []) (s, (p, tt)) (lineVal s ∷ [], (vint w64 p ∷ [], tt))) ∷ []) ∵ join ! $ frame ! $ done !) $ frame ! $ done !
 
-  abbrev pub to-take : Reader → Val → ℕ → Take 𝓤 H A mem run .Ghost
+  abbrev to-take : Reader → Val → ℕ → Take 𝓤 H A mem run .Ghost
   to-take h u n = (((κ, tt), (q, tt), tt, (h, (n, tt)), (u ∷ [], (vint w64 n ∷ [], tt))), tt)
 
   goes-take : (h : Reader) (u : Val) (n : ℕ) → n < 2 ^ 64 → ent 𝓤 (sep 𝓤 (sem 𝓤 H A (Holder h u)) Token) (Take 𝓤 H A mem run .pre (to-take h u n))

@@ -5,7 +5,7 @@ ghost use Rattle.rules.specs.Line.{allDigits, digitOf, digitValue, isDigit};
 ghost use Rattle.fields.specs.Digits.{readDigit};
 
 // What a byte of a line is: a digit with its value, or none.
-pub(crate) enum Digit {
+enum Digit {
     Value(u8),
     Refused,
 }

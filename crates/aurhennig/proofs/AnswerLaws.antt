@@ -13,8 +13,8 @@ use Rattle.rules.specs.declared.Answer.the-variants.{Accepted, FrameLength, Cor
 use Rattle.rules.specs.Piece.{Piece, firstPieces}
 use Rattle.rules.specs.Answer.{numberOf}
 use Rattle.rules.specs.Line.{bytes, pieceLines, answerRest, answerLine}
-use Rattle.aurhennig.specs.Pasted.{pasted}
-use Rattle.aurhennig.proofs.PastedLaws.{length-digits, pasted-twice, pasted-none}
+use Rattle.fields.specs.Pasted.{pasted}
+use Rattle.fields.proofs.PastedLaws.{length-digits, pasted-twice, pasted-none}
 use Rattle.aurhennig.proofs.PieceLaws.{length-pieces, length-first}
 
 -- o₁ is o with the rest l of a line, which ends at r

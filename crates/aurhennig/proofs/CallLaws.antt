@@ -2,14 +2,13 @@
 -- Assumes nothing.
 use mathlib.Core.Path.{_≡_, refl, sym, subst, _∙_, ap}
 use mathlib.Core.Bool.{Bool, true, false}
-use mathlib.Core.List.{List, [], _∷_, append-nil}
+use mathlib.Core.List.{List, [], append-nil}
 use Prim.Native.Nat.{ℕ, _+_, _-_, _*_, _≤_, _<_}
-use native.Mathlib.Numerals.{unary-clauses}
 use native.Mathlib.Omega.{arith}
 use lib.ListN.{length, take, drop, replicate, length-append, length-drop}
 use lib.Seq.{take-at}
 use borrow.Author.Tests.{lt-ltb, le-ltb}
-use Rattle.rules.specs.Piece.{Piece, numbersOf, firstPieces}
+use Rattle.rules.specs.Piece.{firstPieces}
 use Rattle.rules.specs.Table.{tableOf}
 use Rattle.rules.specs.Tests.{Tested, refused, passed, tested}
 use Rattle.rules.specs.Plan.{PlanAnswerAt, PlanAnswer, Decided, planned, overloaded}
@@ -17,9 +16,9 @@ use Rattle.rules.specs.Line.{lineFrame, lineCores, lineTasks, lineBudgets, line
 use Rattle.rules.specs.LineCall.{lentTable, LinePlanned, LineAnswerAt, CallDone, CallAnswerAt, CallAnswer}
 use Rattle.rules.specs.declared.Answer.the-variants.{BadLine}
 use Rattle.rules.specs.declared.Planned.{Planned}
-use Rattle.aurhennig.specs.Pasted.{pasted}
+use Rattle.fields.specs.Pasted.{pasted}
 use Rattle.aurhennig.specs.Decoded.{Tasked}
-use Rattle.aurhennig.proofs.PastedLaws.{pasted-front}
+use Rattle.fields.proofs.PastedLaws.{pasted-front}
 use Rattle.aurhennig.proofs.DecodeLaws.{length-tasks}
 use Rattle.rules.proofs.Numbers.{length-numbers}
 

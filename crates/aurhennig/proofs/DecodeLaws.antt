@@ -1,78 +1,69 @@
 -- Laws on a decoded line: the line test, the fields before the tasks, and the tasks' fields.
 -- Assumes nothing.
-use mathlib.Core.Path.{_≡_, refl, sym, subst, _∙_, ap}
+use mathlib.Core.Path.{_≡_, refl, subst, _∙_, ap}
 use mathlib.Core.Bool.{Bool, true, false, _&&_}
 use mathlib.Core.List.{List, _++_, append-assoc}
 use Prim.Native.Nat.{ℕ, zero, suc, _+_, _*_, _%_, _^_, _≤_, _<_}
 use native.Mathlib.Numerals.{add-one, unary-clauses}
 use native.Mathlib.Omega.{arith}
 use lib.Dec.{leb, eqb}
-use lib.ListN.{length, getD, drop, set, length-append, drop-of-length-le}
+use lib.ListN.{length, getD, drop, set, length-append}
 use lib.Seq.{drop-cons, set-at}
 use borrow.Author.Tests.{le-leb, lt-leb, eq-eqb, ne-eqb, eqb-true}
-use Rattle.rules.specs.Line.{isDigit, field, lineFrame, lineCores, lineTasks, taskFields, allDigits, wellWritten}
-use Rattle.aurhennig.specs.Held.{heldField}
-use Rattle.aurhennig.specs.Three.{threeAt}
+use Rattle.rules.specs.Line.{field, lineFrame, lineCores, lineTasks, taskFields, allDigits, wellWritten}
+use Rattle.fields.specs.Held.{heldField, pastField}
 use Rattle.aurhennig.specs.Decoded.{Tasked}
-use Rattle.aurhennig.specs.declared.reader.Three.{Three}
-use Rattle.aurhennig.proofs.FieldLaws.{held-field, digits-below}
+use Rattle.fields.proofs.FieldLaws.{held-field, held-past, digits-below}
 
--- every byte from i on is a digit exactly if every byte is
-module _ (l : List ℕ) (i : ℕ) (same : allDigits l ≡ allDigits (drop i l)) where
-  from-here : i < length l → allDigits l ≡ isDigit (getD l i 0) && allDigits (drop (suc i) l)
-  unfolding allDigits
-  from-here h = same ∙ ap allDigits (drop-cons l i 0 h)
+-- the fields before the tasks, as a reader takes them one after another
+module _ (l : List ℕ) (long : 12 ≤ length l) where
+  pub head-frame : heldField l 0 4 ≡ lineFrame l
+  head-frame = held-field l 0 4 (omega arith) (omega arith)
 
-  pub all-more : (r : Bool) → i < length l → r ≡ isDigit (getD l i 0) → r ≡ true → allDigits l ≡ allDigits (drop (i + 1) l)
-  all-more r h e g = from-here h ∙ simp (← e, g, add-one)
+  past-frame : pastField l 0 4 ≡ 4
+  past-frame = held-past l 0 4 (omega arith) (omega arith)
 
-  pub all-stop : (r : Bool) → i < length l → r ≡ isDigit (getD l i 0) → r ≡ false → false ≡ allDigits l
-  all-stop r h e g = sym (from-here h ∙ simp (← e, g))
+  pub head-cores : heldField l (pastField l 0 4) 1 ≡ lineCores l
+  head-cores = rw past-frame (held-field l 4 1 (omega arith) (omega arith))
 
-  pub all-done : length l ≤ i → true ≡ allDigits l
-  unfolding allDigits
-  all-done h = sym (same ∙ ap allDigits (drop-of-length-le l h))
+  past-cores : pastField l (pastField l 0 4) 1 ≡ 5
+  past-cores = rw past-frame (held-past l 4 1 (omega arith) (omega arith))
 
-pub three-made : (l : List ℕ) (p a b c x y z : ℕ) → x ≡ heldField l p a → y ≡ heldField l (p + a) b → z ≡ heldField l (p + a + b) c
-    → _≡_ {A = Three} (record { first = x; second = y; third = z }) (threeAt l p a b c)
-three-made l p a b c x y z ex ey ez = simp (ex, ey, ez)
+  pub head-tasks : heldField l (pastField l (pastField l 0 4) 1) 1 ≡ lineTasks l
+  head-tasks = rw past-cores (held-field l 5 1 (omega arith) (omega arith))
 
--- the fields before the tasks
-module _ (l : List ℕ) (t : Three) (long : 12 ≤ length l) (e : t ≡ threeAt l 0 4 1 1) where
-  pub head-frame : t .first ≡ lineFrame l
-  head-frame = ap (λ (x : Three). x .first) e ∙ held-field l 0 4 (omega arith) (omega arith)
+  pub frame-fits : heldField l 0 4 < 2 ^ 32
+  frame-fits = rw head-frame (digits-below l 0 8)
 
-  pub head-cores : t .second ≡ lineCores l
-  head-cores = ap (λ (x : Three). x .second) e ∙ held-field l 4 1 (omega arith) (omega arith)
+  pub cores-fits : heldField l (pastField l 0 4) 1 < 256
+  cores-fits = rw head-cores (digits-below l 8 2)
 
-  pub head-tasks : t .third ≡ lineTasks l
-  head-tasks = ap (λ (x : Three). x .third) e ∙ held-field l 5 1 (omega arith) (omega arith)
+  pub tasks-fits : heldField l (pastField l (pastField l 0 4) 1) 1 < 256
+  tasks-fits = rw head-tasks (digits-below l 10 2)
 
-  pub head-frame-fits : t .first < 2 ^ 32
-  head-frame-fits = rw head-frame (digits-below l 0 8)
+-- the fields of the task that begins at byte p
+module _ (l : List ℕ) (p : ℕ) (long : 2 * (p + 6) ≤ length l) where
+  pub task-budget : heldField l p 4 ≡ field l p 4
+  task-budget = held-field l p 4 (omega arith) (omega arith)
 
-  pub head-cores-fits : t .second < 256
-  head-cores-fits = rw head-cores (digits-below l 8 2)
+  past-budget : pastField l p 4 ≡ p + 4
+  past-budget = held-past l p 4 (omega arith) (omega arith)
 
-  pub head-tasks-fits : t .third < 256
-  head-tasks-fits = rw head-tasks (digits-below l 10 2)
+  pub task-mask : heldField l (pastField l p 4) 2 ≡ field l (p + 4) 2
+  task-mask = rw past-budget (held-field l (p + 4) 2 (omega arith) (omega arith))
 
--- the fields of task i
-module _ (l : List ℕ) (t : Three) (i n : ℕ) (below : i < n) (long : 2 * (6 + 6 * n) ≤ length l) (e : t ≡ threeAt l (6 + 6 * i) 4 2 0) where
-  pub task-budget : t .first ≡ field l (6 + 6 * i + 0) 4
-  task-budget = ap (λ (x : Three). x .first) e ∙ held-field l (6 + 6 * i) 4 (omega arith) (omega arith) ∙ ap (λ (p : ℕ). field l p 4) (still (6 + 6 * i))
-    where
-      still : (p : ℕ) → p ≡ p + 0
-      still p = omega arith
+  pub budget-fits : heldField l p 4 < 2 ^ 32
+  budget-fits = rw task-budget (digits-below l (2 * p) 8)
 
-  pub task-mask : t .second ≡ field l (6 + 6 * i + 4) 2
-  task-mask = ap (λ (x : Three). x .second) e ∙ held-field l (6 + 6 * i + 4) 2 (omega arith) (omega arith)
+  pub mask-fits : heldField l (pastField l p 4) 2 < 2 ^ 16
+  mask-fits = rw task-mask (digits-below l (2 * (p + 4)) 4)
 
-  pub task-budget-fits : t .first < 2 ^ 32
-  task-budget-fits = rw task-budget (digits-below l (2 * (6 + 6 * i + 0)) 8)
-
-  pub task-mask-fits : t .second < 2 ^ 16
-  task-mask-fits = rw task-mask (digits-below l (2 * (6 + 6 * i + 4)) 4)
+-- where task i's budget stands
+pub budget-place : (l : List ℕ) (i v : ℕ) → v ≡ field l (6 + 6 * i) 4 → v ≡ field l (6 + 6 * i + 0) 4
+budget-place l i v e = e ∙ ap (λ (p : ℕ). field l p 4) (still (6 + 6 * i))
+  where
+    still : (p : ℕ) → p ≡ p + 0
+    still p = omega arith
 
 -- one more task's field, at the front of a list
 module _ (l : List ℕ) (p w : ℕ) where

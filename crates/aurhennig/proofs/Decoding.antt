@@ -11,8 +11,8 @@ use lib.Seq.{split-at, take-suc, take-length, length-take-le}
 use borrow.Author.Tests.{le-leb, eq-eqb}
 use Rattle.rules.specs.Line.{bytes, field, lineFrame, lineCores, lineTasks, lineBudgets, lineMasks, taskFields, allDigits, wellWritten}
 use Rattle.aurhennig.specs.SetLine.{taskLines, setLine, Fits}
-use Rattle.aurhennig.proofs.PastedLaws.{length-digits}
-use Rattle.aurhennig.proofs.ReadBack.{field-read, all-append, all-written}
+use Rattle.fields.proofs.PastedLaws.{length-digits}
+use Rattle.fields.proofs.ReadBack.{field-read, all-append, all-written}
 
 length-task-lines : (bs ms : List ℕ) → length bs ≡ length ms → length (taskLines bs ms) ≡ 12 * length bs
 unfolding taskLines

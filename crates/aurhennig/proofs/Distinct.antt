@@ -13,8 +13,8 @@ use Rattle.rules.specs.Line.{digitsAt, digits, bytes, pieceLine, pieceLines, an
 use Rattle.rules.specs.declared.Answer.{Answer}
 use Rattle.rules.specs.declared.Answer.the-variants.{Accepted, FrameLength, CoreCount, TaskCount, Mask, Budget, ShortTable, Overloaded, NotTable, JobList, NoUnits, ShortFinishes, BadLine}
 use Rattle.aurhennig.specs.Shown.{PieceFits, PiecesFit, Shown}
-use Rattle.aurhennig.proofs.PastedLaws.{length-digits}
-use Rattle.aurhennig.proofs.ReadBack.{digits-read}
+use Rattle.fields.proofs.PastedLaws.{length-digits}
+use Rattle.fields.proofs.ReadBack.{digits-read}
 
 at-read : (l xs ys : List ℕ) (p c v : ℕ) → l ≡ xs ++ (digits c v ++ ys) → length xs ≡ p → v < 16 ^ c → digitsAt l p c ≡ v
 at-read l xs ys p c v e g h = simp (e, ← g) (digits-read c v xs ys h)

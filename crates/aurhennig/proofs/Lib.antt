@@ -1,10 +1,6 @@
-pub mod DigitLaws
-pub mod FieldLaws
 pub mod DecodeLaws
-pub mod ReadBack
 pub mod Decoding
 pub mod Distinct
-pub mod PastedLaws
 pub mod PieceLaws
 pub mod AnswerLaws
 pub mod CallLaws

@@ -8,8 +8,8 @@ use native.Mathlib.Omega.{arith}
 use lib.ListN.{length, getD, length-append}
 use Rattle.rules.specs.Piece.{Piece, pieceAt, firstPieces}
 use Rattle.rules.specs.Line.{bytes, pieceLine, pieceLines}
-use Rattle.aurhennig.specs.Pasted.{pasted}
-use Rattle.aurhennig.proofs.PastedLaws.{length-digits, pasted-twice, pasted-none}
+use Rattle.fields.specs.Pasted.{pasted}
+use Rattle.fields.proofs.PastedLaws.{length-digits, pasted-twice, pasted-none}
 
 four : (o : List ℕ) (p : ℕ) (a b c d : List ℕ) → length a ≡ 2 → length b ≡ 2 → length c ≡ 8 → p + 20 ≤ length o
     → pasted (pasted (pasted (pasted o p a) (p + 2) b) (p + 4) c) (p + 12) d ≡ pasted o p (a ++ b ++ c ++ d)

@@ -1,7 +1,3 @@
-pub mod Digits
-pub mod Held
-pub mod Pasted
-pub mod Three
 pub mod Decoded
 pub mod SetLine
 pub mod Shown

@@ -1,11 +1,18 @@
 // A line decoded: "In: F (4 bytes), m (1), n (1), then per task budget (4) and mask (2)".
-use crate::digits::is_digit;
-use crate::reader::take_three;
+use fields::all_digits;
+use fields::start;
+use fields::take;
 ghost use mathlib.Core.Path.{_≡_};
 ghost use Prim.Native.Nat.{_+_, _*_, _≤_, _<_};
 ghost use lib.ListN.{length};
-ghost use Rattle.rules.specs.Line.{allDigits, wellWritten};
-ghost use Rattle.aurhennig.specs.Decoded.{Headed, Tasked};
+ghost use Rattle.rules.specs.Line.{wellWritten};
+ghost use Rattle.aurhennig.specs.Decoded.{Headed, TaskAt, Tasked};
+
+// "So is any of more than 3,072 digits."
+const MAX_DIGITS: usize = 3072;
+
+// The digits of the fields before the tasks: "fewer than 12 digits" hold no task count.
+const HEADER_DIGITS: usize = 12;
 
 // The fields before the tasks.
 pub(crate) struct Header {
@@ -14,30 +21,38 @@ pub(crate) struct Header {
     pub(crate) tasks: usize,
 }
 
+// The frame, the cores and the task count, one field after another.
 pub(crate) fn read_header(line: &[u8]) -> Header
     requires { ⌜ 12 ≤ length (now line) ⌝ }
     ensures { λ r. ⌜ Headed (now (line .entry)) r ⌝ }
 {
-    let f = take_three(line, 0, 4, 1, 1);
+    let frame = take(start(line, 0), 4);
+    let cores = take(frame, 1);
+    let tasks = take(cores, 1);
     Header {
-        frame: f.first as u32,
-        cores: f.second as u32,
-        tasks: f.third as usize,
+        frame: frame.value as u32,
+        cores: cores.value as u32,
+        tasks: tasks.value as usize,
     }
 }
 
-// Each byte is a digit.
-fn all_digits(line: &[u8]) -> bool
-    ensures { λ r. ⌜ r ≡ allDigits (now (line .entry)) ⌝ }
+// The fields of a task.
+struct Task {
+    budget: u32,
+    mask: u16,
+}
+
+// The task whose fields begin at byte `at`.
+fn read_task(line: &[u8], at: usize) -> Task
+    requires { ⌜ 2 * (at + 6) ≤ length (now line) ⌝ }
+    ensures { λ r. ⌜ TaskAt (now (line .entry)) at r ⌝ }
 {
-    let mut i = 0;
-    while i < line.len() {
-        if !is_digit(line[i]) {
-            return false;
-        }
-        i += 1;
+    let budget = take(start(line, at), 4);
+    let mask = take(budget, 2);
+    Task {
+        budget: budget.value as u32,
+        mask: mask.value as u16,
     }
-    true
 }
 
 // "A line is not well written if .."; the length is tested first, so that a long line costs no more than a short one.
@@ -45,7 +60,7 @@ pub(crate) fn well_written(line: &[u8]) -> bool
     ensures { λ r. ⌜ r ≡ wellWritten (now (line .entry)) ⌝ }
 {
     let n = line.len();
-    if 3072 < n {
+    if MAX_DIGITS < n {
         return false;
     }
     if !all_digits(line) {
@@ -54,7 +69,7 @@ pub(crate) fn well_written(line: &[u8]) -> bool
     if n % 2 != 0 {
         return false;
     }
-    if n < 12 {
+    if n < HEADER_DIGITS {
         return false;
     }
     let h = read_header(line);
@@ -68,9 +83,9 @@ pub(crate) fn read_tasks(line: &[u8], n: usize, budgets: &mut [u32], masks: &mut
 {
     let mut i = 0;
     while i < n {
-        let f = take_three(line, 6 + 6 * i, 4, 2, 0);
-        budgets[i] = f.first as u32;
-        masks[i] = f.second as u16;
+        let task = read_task(line, 6 + 6 * i);
+        budgets[i] = task.budget;
+        masks[i] = task.mask;
         i += 1;
     }
 }

@@ -1,12 +1,20 @@
 // An answer's line: "Out, one line for each: the number (1 byte)", and what stands after it.
-use crate::fields::put_field;
 use rules::Answer;
 ghost use mathlib.Core.Path.{_≡_};
 ghost use Prim.Native.Nat.{_+_, _*_, _≤_};
 ghost use lib.ListN.{length};
+ghost use Rattle.rules.specs.Sizes.{leastOutput, maxPieces};
 ghost use Rattle.rules.specs.Piece.{firstPieces, pieceAt};
-ghost use Rattle.rules.specs.Line.{answerLine, answerRest, pieceLine, pieceLines};
-ghost use Rattle.aurhennig.specs.Pasted.{pasted};
+ghost use Rattle.rules.specs.Line.{answerLine, answerRest, bytes, pieceLine, pieceLines};
+ghost use Rattle.fields.specs.Pasted.{pasted};
+
+// A field of the answer's line, for which the output has room: the rest keeps what it held.
+pub(crate) fn put(out: &mut [u8], at: usize, width: usize, value: u64)
+    requires { ⌜ (width ≤ 8) × (at + 2 * width ≤ length (now out)) ⌝ }
+    ensures { λ _. ⌜ now (out .exit) ≡ pasted (now (out .entry)) at (bytes width value) ⌝ }
+{
+    fields::put_field(out, at, width, value);
+}
 
 fn wide(x: u32) -> u64
     ensures { λ r. ⌜ r ≡ x ⌝ }
@@ -19,15 +27,15 @@ fn put_piece(out: &mut [u8], at: usize, table: &[u32], k: usize)
     requires { ⌜ (at + 20 ≤ length (now out)) × (4 * k + 4 ≤ length (now table)) ⌝ }
     ensures { λ _. ⌜ now (out .exit) ≡ pasted (now (out .entry)) at (pieceLine (pieceAt (now (table .entry)) k)) ⌝ }
 {
-    put_field(out, at, 1, wide(table[4 * k]));
-    put_field(out, at + 2, 1, wide(table[4 * k + 1]));
-    put_field(out, at + 4, 4, wide(table[4 * k + 2]));
-    put_field(out, at + 12, 4, wide(table[4 * k + 3]));
+    put(out, at, 1, wide(table[4 * k]));
+    put(out, at + 2, 1, wide(table[4 * k + 1]));
+    put(out, at + 4, 4, wide(table[4 * k + 2]));
+    put(out, at + 12, 4, wide(table[4 * k + 3]));
 }
 
 // The pieces of an accepted set, after the number and the piece count.
 fn put_pieces(out: &mut [u8], table: &[u32], pieces: usize)
-    requires { ⌜ (6 + 20 * pieces ≤ length (now out)) × (4 * pieces ≤ length (now table)) × (pieces ≤ 95) ⌝ }
+    requires { ⌜ (6 + 20 * pieces ≤ length (now out)) × (4 * pieces ≤ length (now table)) × (pieces ≤ maxPieces) ⌝ }
     ensures { λ _. ⌜ now (out .exit) ≡ pasted (now (out .entry)) 6 (pieceLines (firstPieces (now (table .entry)) pieces)) ⌝ }
 {
     let mut i = 0;
@@ -40,26 +48,26 @@ fn put_pieces(out: &mut [u8], table: &[u32], pieces: usize)
 // What stands after the number: "for 0 the piece count (2) and per piece ..; for 4 and 5 the task (1); for 7 the group (8, bit i for task i)
 // and its cores (2); otherwise nothing more". Hands back where the line ends.
 fn put_rest(answer: Answer, pieces: usize, table: &[u32], out: &mut [u8]) -> usize
-    requires { ⌜ (1906 ≤ length (now out)) × (4 * pieces ≤ length (now table)) × (pieces ≤ 95) ⌝ }
+    requires { ⌜ (leastOutput ≤ length (now out)) × (4 * pieces ≤ length (now table)) × (pieces ≤ maxPieces) ⌝ }
     ensures { λ r. ⌜ (now (out .exit) ≡ pasted (now (out .entry)) 2 (answerRest answer (firstPieces (now (table .entry)) pieces))) × (r ≡ 2 + length (answerRest answer (firstPieces (now (table .entry)) pieces))) ⌝ }
 {
     match answer {
         Answer::Accepted => {
-            put_field(out, 2, 2, pieces as u64);
+            put(out, 2, 2, pieces as u64);
             put_pieces(out, table, pieces);
             6 + 20 * pieces
         }
         Answer::Mask(task) => {
-            put_field(out, 2, 1, task as u64);
+            put(out, 2, 1, task as u64);
             4
         }
         Answer::Budget(task) => {
-            put_field(out, 2, 1, task as u64);
+            put(out, 2, 1, task as u64);
             4
         }
         Answer::Overloaded { group, cores } => {
-            put_field(out, 2, 8, group);
-            put_field(out, 18, 2, cores as u64);
+            put(out, 2, 8, group);
+            put(out, 18, 2, cores as u64);
             22
         }
         _ => 2,
@@ -68,9 +76,9 @@ fn put_rest(answer: Answer, pieces: usize, table: &[u32], out: &mut [u8]) -> usi
 
 // The whole line at the front of the output: what lies beyond keeps.
 pub(crate) fn put_answer(answer: Answer, pieces: usize, table: &[u32], out: &mut [u8]) -> usize
-    requires { ⌜ (1906 ≤ length (now out)) × (4 * pieces ≤ length (now table)) × (pieces ≤ 95) ⌝ }
+    requires { ⌜ (leastOutput ≤ length (now out)) × (4 * pieces ≤ length (now table)) × (pieces ≤ maxPieces) ⌝ }
     ensures { λ r. ⌜ (now (out .exit) ≡ pasted (now (out .entry)) 0 (answerLine answer (firstPieces (now (table .entry)) pieces))) × (r ≡ length (answerLine answer (firstPieces (now (table .entry)) pieces))) ⌝ }
 {
-    put_field(out, 0, 1, rules::number(answer) as u64);
+    put(out, 0, 1, rules::number(answer) as u64);
     put_rest(answer, pieces, table, out)
 }

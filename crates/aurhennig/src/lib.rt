@@ -1,9 +1,6 @@
 // The line call: document 01, "Lines". One line in and one line out, on lent byte slices. Only the call is public.
 mod call;
 mod decode;
-mod digits;
 mod encode;
-mod fields;
-mod reader;
 
 pub use call::aurhennig_plan_line;

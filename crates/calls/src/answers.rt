@@ -1,5 +1,5 @@
 // Answer lines: "number (1); for 9 and 10 the job (4)", and for 0 what the call found.
-use crate::fields::put_field;
+use fields::put_field;
 use rules::Answer;
 ghost use Prim.Native.Nat.{_+_, _*_, _≤_};
 ghost use lib.ListN.{length};

@@ -1,26 +1,42 @@
 // What a line lends to its call, and the call's answer line.
 use crate::answers::put_answer;
 use crate::answers::put_bad_line;
-use crate::digits::all_digits;
-use crate::fields::count_at;
-use crate::fields::number_at;
-use crate::fields::read_releases;
-use crate::fields::read_words;
-use crate::fields::word_at;
+use crate::words::count_at;
+use crate::words::read_releases;
+use crate::words::read_words;
+use crate::words::word_at;
+use fields::all_digits;
+use fields::field_at;
 use rules::Answer;
 ghost use mathlib.Core.Path.{_≡_};
 ghost use Prim.Native.Nat.{_+_, _*_, _≤_, _<_};
 ghost use lib.ListN.{length};
+
+// The most digits that a line may have; the program keeps one byte more, so that a longer line is seen.
+const MAX_DIGITS: usize = 99002;
+
+// The digits before the words of a table check or a move count, and before a walk's lists.
+const TABLE_HEAD: usize = 18;
+
+const WALK_HEAD: usize = 42;
+
+// Digits of a word, and of a release.
+const WORD: usize = 8;
+
+const RELEASE: usize = 16;
+
+// The most that a field of 2 bytes can count.
+const MOST_FINISHES: usize = 65535;
 
 // The table check: "call (1), F (4 bytes), m (4), then the table's words".
 fn check(line: &[u8], out: &mut [u8]) -> usize
     requires { ⌜ (18 ≤ length (now line)) × (length (now line) ≤ 99002) × (99003 ≤ length (now out)) ⌝ }
     ensures { λ r. ⌜ r ≤ 99002 ⌝ }
 {
-    let count = (line.len() - 18) / 8;
-    let mut words = [0u32; 12373];
-    read_words(line, 18, count, &mut words);
-    let answer = table::check_table(word_at(line, 2), word_at(line, 10), &words[..count]);
+    let count = (line.len() - TABLE_HEAD) / WORD;
+    let mut words = [0u32; (MAX_DIGITS - TABLE_HEAD) / WORD];
+    read_words(line, 9, count, &mut words);
+    let answer = table::check_table(word_at(line, 1), word_at(line, 5), &words[..count]);
     put_answer(out, answer, &[0], 0, 1)
 }
 
@@ -29,10 +45,10 @@ fn count_moves(line: &[u8], out: &mut [u8]) -> usize
     requires { ⌜ (18 ≤ length (now line)) × (length (now line) ≤ 99002) × (99003 ≤ length (now out)) ⌝ }
     ensures { λ r. ⌜ r ≤ 99002 ⌝ }
 {
-    let count = (line.len() - 18) / 8;
-    let mut words = [0u32; 12373];
-    read_words(line, 18, count, &mut words);
-    let counted = table::count_moves(word_at(line, 2), word_at(line, 10), &words[..count]);
+    let count = (line.len() - TABLE_HEAD) / WORD;
+    let mut words = [0u32; (MAX_DIGITS - TABLE_HEAD) / WORD];
+    read_words(line, 9, count, &mut words);
+    let counted = table::count_moves(word_at(line, 1), word_at(line, 5), &words[..count]);
     let answer = counted.answer;
     put_answer(out, answer, &[counted.moves as u64], 1, 4)
 }
@@ -53,17 +69,17 @@ fn walk_lists(line: &[u8], c: Counts, finishes: &mut [u64]) -> Answer
     let jobs = c.releases;
     let asked = c.units;
     let room = c.room;
-    let mut words = [0u32; 12370];
-    let mut releases = [0u64; 6185];
-    let mut units = [0u32; 12370];
-    read_words(line, 42, n, &mut words);
-    read_releases(line, 42 + 8 * n, jobs, &mut releases);
-    read_words(line, 42 + 8 * n + 16 * jobs, asked, &mut units);
+    let mut words = [0u32; (MAX_DIGITS - WALK_HEAD) / WORD];
+    let mut releases = [0u64; (MAX_DIGITS - WALK_HEAD) / RELEASE];
+    let mut units = [0u32; (MAX_DIGITS - WALK_HEAD) / WORD];
+    read_words(line, 21, n, &mut words);
+    read_releases(line, 21 + 4 * n, jobs, &mut releases);
+    read_words(line, 21 + 4 * n + 8 * jobs, asked, &mut units);
     walker::walk(
-        word_at(line, 2),
-        word_at(line, 10),
+        word_at(line, 1),
+        word_at(line, 5),
         &words[..n],
-        word_at(line, 18),
+        word_at(line, 9),
         &releases[..jobs],
         &units[..asked],
         &mut finishes[..room],
@@ -75,17 +91,17 @@ fn walk(line: &[u8], out: &mut [u8]) -> usize
     requires { ⌜ (length (now line) ≤ 99002) × (99003 ≤ length (now out)) ⌝ }
     ensures { λ r. ⌜ r ≤ 99002 ⌝ }
 {
-    if line.len() < 42 {
+    if line.len() < WALK_HEAD {
         return put_bad_line(out);
     }
-    let words = count_at(line, 26);
-    let releases = count_at(line, 30);
-    let units = count_at(line, 34);
-    let room = count_at(line, 38);
-    if 42 + 8 * words + 16 * releases + 8 * units != line.len() {
+    let words = count_at(line, 13);
+    let releases = count_at(line, 15);
+    let units = count_at(line, 17);
+    let room = count_at(line, 19);
+    if WALK_HEAD + WORD * words + RELEASE * releases + WORD * units != line.len() {
         return put_bad_line(out);
     }
-    let mut finishes = [0u64; 65535];
+    let mut finishes = [0u64; MOST_FINISHES];
     let answer = walk_lists(
         line,
         Counts {
@@ -105,19 +121,19 @@ pub(crate) fn answer_line(line: &[u8], out: &mut [u8]) -> usize
     ensures { λ r. ⌜ r ≤ 99002 ⌝ }
 {
     let n = line.len();
-    if 99002 < n {
+    if MAX_DIGITS < n {
         return put_bad_line(out);
     }
-    if n < 18 {
+    if n < TABLE_HEAD {
         return put_bad_line(out);
     }
-    if n % 8 != 2 {
+    if n % WORD != 2 {
         return put_bad_line(out);
     }
     if !all_digits(line) {
         return put_bad_line(out);
     }
-    let call = number_at(line, 0, 2);
+    let call = field_at(line, 0, 1);
     match call {
         1 => check(line, out),
         2 => count_moves(line, out),

@@ -5,7 +5,7 @@ use Prim.Native.Nat.{_≤_, _-_}
 use native.Mathlib.Omega.{arith}
 use lib.ListN.{length}
 use Rattle.aurhennig.specs.Decoded.{Tasked}
-use Rattle.aurhennig.proofs.DecodeLaws.{tasks-none, tasks-more, tasks-done, task-budget, task-mask, task-budget-fits, task-mask-fits}
+use Rattle.aurhennig.proofs.DecodeLaws.{tasks-none, tasks-more, tasks-done, budget-place}
 use borrow.Author.Needs.{needs}
 use Rattle.aurhennig.proofs.decode.read_tasks.Statement.{statement}
 use Rattle.aurhennig.proofs.decode.read_tasks.Tie as tie
@@ -19,32 +19,20 @@ abbrev μ-loop : tie.MeasureT-loop
 loop-holds : tie.Need-loop-holds Inv-loop μ-loop
 loop-holds c = (record { budgets = tasks-none _ 0 4 _; masks = tasks-none _ 4 2 _ }, search needs, search needs, search needs)
 
-mul-take-three : tie.Need-mul-take-three Inv-loop μ-loop
-mul-take-three c = search needs
+mul-read-task : tie.Need-mul-read-task Inv-loop μ-loop
+mul-read-task c = search needs
 
-add-take-three : tie.Need-add-take-three Inv-loop μ-loop
-add-take-three c = search needs
+add-read-task : tie.Need-add-read-task Inv-loop μ-loop
+add-read-task c = search needs
 
-take-three-requires : tie.Need-take-three-requires Inv-loop μ-loop
-take-three-requires c κs = search needs
-
-cast-budgets : tie.Need-cast-budgets Inv-loop μ-loop
-cast-budgets c =
-    let read = c .before in
-    let turn = read .before .before in
-    record { fits = task-budget-fits _ _ (turn .loop .i) _ (read .before .loop-test .taken) (turn .before .before .before .before .pre .1) (read .take-three .ensures) }
+read-task-requires : tie.Need-read-task-requires Inv-loop μ-loop
+read-task-requires c κs = search needs
 
 mul-budgets : tie.Need-mul-budgets Inv-loop μ-loop
 mul-budgets c = search needs
 
 slice-write-budgets : tie.Need-slice-write-budgets Inv-loop μ-loop
 slice-write-budgets c = search needs
-
-cast-masks : tie.Need-cast-masks Inv-loop μ-loop
-cast-masks c =
-    let read = c .before .before in
-    let turn = read .before .before in
-    record { fits = task-mask-fits _ _ (turn .loop .i) _ (read .before .loop-test .taken) (turn .before .before .before .before .pre .1) (read .take-three .ensures) }
 
 mul-masks : tie.Need-mul-masks Inv-loop μ-loop
 mul-masks c = search needs
@@ -60,12 +48,10 @@ loop-less c = search needs
 
 loop-again : tie.Need-loop-again Inv-loop μ-loop
 loop-again c =
-    let read = c .before .before in
-    let turn = read .before .before in
-    let long = turn .before .before .before .before .pre .1 in (
+    let turn = c .before .before in (
       record {
-        budgets = tasks-more _ 0 4 _ _ (turn .loop .i) _ (turn .loop .inv .0 .budgets) (omega arith) (task-budget _ _ (turn .loop .i) _ (read .before .loop-test .taken) long (read .take-three .ensures));
-        masks = tasks-more _ 4 2 _ _ (turn .loop .i) _ (turn .loop .inv .0 .masks) (omega arith) (task-mask _ _ (turn .loop .i) _ (read .before .loop-test .taken) long (read .take-three .ensures));
+        budgets = tasks-more _ 0 4 _ _ (turn .loop .i) _ (turn .loop .inv .0 .budgets) (omega arith) (budget-place _ (turn .loop .i) _ (c .read-task .ensures .budget));
+        masks = tasks-more _ 4 2 _ _ (turn .loop .i) _ (turn .loop .inv .0 .masks) (omega arith) (c .read-task .ensures .mask);
       },
       search needs,
       search needs,
@@ -88,13 +74,11 @@ read-tasks-spec =
     Inv-loop
     μ-loop
     loop-holds
-    mul-take-three
-    add-take-three
-    take-three-requires
-    cast-budgets
+    mul-read-task
+    add-read-task
+    read-task-requires
     mul-budgets
     slice-write-budgets
-    cast-masks
     mul-masks
     slice-write-masks
     add-i

@@ -8,11 +8,11 @@ use Rattle.aurhennig.proofs.encode.put_answer.Tie as tie
 number-requires : tie.Need-number-requires
 number-requires c κs = search needs
 
-cast-put-field : tie.Need-cast-put-field
-cast-put-field c = search needs
+cast-put : tie.Need-cast-put
+cast-put c = search needs
 
-put-field-requires : tie.Need-put-field-requires
-put-field-requires c κs = search needs
+put-requires : tie.Need-put-requires
+put-requires c κs = search needs
 
 put-rest-requires : tie.Need-put-rest-requires
 put-rest-requires c κs = search needs
@@ -25,15 +25,15 @@ returns c =
     let rest = c .before .before in
     let number = rest .before .before .before .before in
     let start = number .before .before .before .before .before in
-    answer-put (start .args .answer) _ _ _ _ _ _ (number .before .number .ensures) (start .pre .0) (number .put-field .ensures) (rest .put-rest .ensures)
+    answer-put (start .args .answer) _ _ _ _ _ _ (number .before .number .ensures) (start .pre .0) (number .put .ensures) (rest .put-rest .ensures)
 
 pub put-answer-spec : {M : Type 1} → statement M
 put-answer-spec =
     tie.close
     (tie.spec
     number-requires
-    cast-put-field
-    put-field-requires
+    cast-put
+    put-requires
     put-rest-requires
     same-length
     returns)

@@ -17,11 +17,11 @@ shared-slice-read-wide c = search needs
 wide-requires : tie.Need-wide-requires
 wide-requires c κs = search needs
 
-put-field-requires : tie.Need-put-field-requires
-put-field-requires c κs = search needs
+put-requires : tie.Need-put-requires
+put-requires c κs = search needs
 
-add-put-field : tie.Need-add-put-field
-add-put-field c = search needs
+add-put : tie.Need-add-put
+add-put c = search needs
 
 mul-wide-3 : tie.Need-mul-wide-3
 mul-wide-3 c = search needs
@@ -38,11 +38,11 @@ shared-slice-read-wide-2 c = search needs
 wide-requires-2 : tie.Need-wide-requires-2
 wide-requires-2 c κs = search needs
 
-put-field-requires-2 : tie.Need-put-field-requires-2
-put-field-requires-2 c κs = search needs
+put-requires-2 : tie.Need-put-requires-2
+put-requires-2 c κs = search needs
 
-add-put-field-2 : tie.Need-add-put-field-2
-add-put-field-2 c = search needs
+add-put-2 : tie.Need-add-put-2
+add-put-2 c = search needs
 
 mul-wide-5 : tie.Need-mul-wide-5
 mul-wide-5 c = search needs
@@ -59,11 +59,11 @@ shared-slice-read-wide-3 c = search needs
 wide-requires-3 : tie.Need-wide-requires-3
 wide-requires-3 c κs = search needs
 
-put-field-requires-3 : tie.Need-put-field-requires-3
-put-field-requires-3 c κs = search needs
+put-requires-3 : tie.Need-put-requires-3
+put-requires-3 c κs = search needs
 
-add-put-field-3 : tie.Need-add-put-field-3
-add-put-field-3 c = search needs
+add-put-3 : tie.Need-add-put-3
+add-put-3 c = search needs
 
 mul-wide-7 : tie.Need-mul-wide-7
 mul-wide-7 c = search needs
@@ -80,8 +80,8 @@ shared-slice-read-wide-4 c = search needs
 wide-requires-4 : tie.Need-wide-requires-4
 wide-requires-4 c κs = search needs
 
-put-field-requires-4 : tie.Need-put-field-requires-4
-put-field-requires-4 c κs = search needs
+put-requires-4 : tie.Need-put-requires-4
+put-requires-4 c κs = search needs
 
 same-length : tie.Need-same-length
 same-length c = search needs
@@ -94,7 +94,7 @@ returns c =
     let first = second .before .before .before .before .before .before in
     let start = first .before .before .before .before .before .before in
     piece-put _ _ _ _ _ (start .args .table .now) _ (start .args .k) _ _ _ _ (first .before .wide .ensures) (second .before .wide2 .ensures) (third .before .wide3 .ensures) (fourth .before .wide4 .ensures)
-    (first .put-field .ensures) (second .put-field2 .ensures) (third .put-field3 .ensures) (fourth .put-field4 .ensures) (start .pre .0)
+    (first .put .ensures) (second .put2 .ensures) (third .put3 .ensures) (fourth .put4 .ensures) (start .pre .0)
 
 pub put-piece-spec : {M : Type 1} → statement M
 put-piece-spec =
@@ -104,27 +104,27 @@ put-piece-spec =
     mul-wide-2
     shared-slice-read-wide
     wide-requires
-    put-field-requires
-    add-put-field
+    put-requires
+    add-put
     mul-wide-3
     add-wide
     mul-wide-4
     shared-slice-read-wide-2
     wide-requires-2
-    put-field-requires-2
-    add-put-field-2
+    put-requires-2
+    add-put-2
     mul-wide-5
     add-wide-2
     mul-wide-6
     shared-slice-read-wide-3
     wide-requires-3
-    put-field-requires-3
-    add-put-field-3
+    put-requires-3
+    add-put-3
     mul-wide-7
     add-wide-3
     mul-wide-8
     shared-slice-read-wide-4
     wide-requires-4
-    put-field-requires-4
+    put-requires-4
     same-length
     returns)

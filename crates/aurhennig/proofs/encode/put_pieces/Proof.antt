@@ -6,7 +6,7 @@ use native.Mathlib.Omega.{arith}
 use lib.ListN.{length}
 use Rattle.rules.specs.Piece.{firstPieces}
 use Rattle.rules.specs.Line.{pieceLines}
-use Rattle.aurhennig.specs.Pasted.{pasted}
+use Rattle.fields.specs.Pasted.{pasted}
 use Rattle.aurhennig.proofs.PieceLaws.{pieces-none, pieces-more, pieces-done}
 use borrow.Author.Needs.{needs}
 use Rattle.aurhennig.proofs.encode.put_pieces.Statement.{statement}

@@ -1,0 +1,38 @@
+// What a line lends, by the byte where it begins: words of 4 bytes, counts of 2 and releases of 8.
+use fields::field_at;
+ghost use Prim.Native.Nat.{_+_, _*_, _≤_, _<_};
+ghost use lib.ListN.{length};
+
+// A field of 4 bytes, so the remainder drops none.
+pub(crate) fn word_at(line: &[u8], at: usize) -> u32 {
+    (field_at(line, at, 4) % 4294967296) as u32
+}
+
+// A field of 2 bytes: how many a list has.
+pub(crate) fn count_at(line: &[u8], at: usize) -> usize
+    ensures { λ r. ⌜ r < 65536 ⌝ }
+{
+    (field_at(line, at, 2) % 65536) as usize
+}
+
+// `count` words from byte `at` on, at the front of the list.
+pub(crate) fn read_words(line: &[u8], at: usize, count: usize, words: &mut [u32])
+    requires { ⌜ (2 * (at + 4 * count) ≤ length (now line)) × (count ≤ length (now words)) ⌝ }
+{
+    let mut i = 0;
+    while i < count {
+        words[i] = word_at(line, at + 4 * i);
+        i += 1;
+    }
+}
+
+// `count` releases from byte `at` on.
+pub(crate) fn read_releases(line: &[u8], at: usize, count: usize, releases: &mut [u64])
+    requires { ⌜ (2 * (at + 8 * count) ≤ length (now line)) × (count ≤ length (now releases)) ⌝ }
+{
+    let mut i = 0;
+    while i < count {
+        releases[i] = field_at(line, at + 8 * i, 8);
+        i += 1;
+    }
+}

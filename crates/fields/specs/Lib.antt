@@ -1,0 +1,4 @@
+pub mod Digits
+pub mod Held
+pub mod Pasted
+pub mod Reading

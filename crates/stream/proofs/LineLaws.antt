@@ -179,15 +179,18 @@ module _ (chunk : List ℕ) (from : ℕ) (line : List ℕ) (len : ℕ) (r : Take
   pub took-few : r .len ≤ length line′
   took-few = omega (arith, far .few, far .long)
 
-  some-taken : from + 1 ≤ r .at
-  some-taken = omega (arith, far .some, length-drop from chunk)
+  pub took-kept : r .len ≤ length line
+  took-kept = omega (arith, far .few)
 
-  taken-within : r .at ≤ length chunk
-  taken-within = omega (arith, far .within, length-drop from chunk)
+  pub took-some : from + 1 ≤ r .at
+  took-some = omega (arith, far .some, length-drop from chunk)
+
+  pub took-within : r .at ≤ length chunk
+  took-within = omega (arith, far .within, length-drop from chunk)
 
   pub took-whole : {A : List ℕ → List ℕ → Type 0} (room : ℕ) (out out′ : List ℕ) (used end : ℕ) → r .whole ≡ true → Answered A room line′ (r .len) out used out′ end → Took A room chunk from line len out used line′ out′ (record { taken = r .at; len = 0; used = end })
   took-whole {A} room out out′ used end whole a =
-      record { few = omega arith; within = a .few; not-before = a .not-before; taken = taken-within; some = some-taken; took = λ l h. fed (taken l h) }
+      record { few = omega arith; within = a .few; not-before = a .not-before; taken = took-within; some = took-some; took = λ l h. fed (taken l h) }
     where
       fed : {l : List ℕ} → TakenLine A l (drop from chunk) from (r, line′) → FedLine A l (take (r .at - from) (drop from chunk)) out used line′ out′ 0 end
       fed {l} q =
@@ -204,7 +207,7 @@ module _ (chunk : List ℕ) (from : ℕ) (line : List ℕ) (len : ℕ) (r : Take
 
   pub took-part : {A : List ℕ → List ℕ → Type 0} (room : ℕ) (out : List ℕ) (used : ℕ) → r .whole ≡ false → Took A room chunk from line len out used line′ out (record { taken = r .at; len = r .len; used = used })
   took-part {A} room out used part =
-      record { few = omega (arith, took-few, far .long); within = omega arith; not-before = omega arith; taken = taken-within; some = some-taken; took = λ l h. fed (taken l h) }
+      record { few = took-kept; within = omega arith; not-before = omega arith; taken = took-within; some = took-some; took = λ l h. fed (taken l h) }
     where
       fed : {l : List ℕ} → TakenLine A l (drop from chunk) from (r, line′) → FedLine A l (take (r .at - from) (drop from chunk)) out used line′ out (r .len) used
       fed {l} q =

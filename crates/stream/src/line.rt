@@ -42,15 +42,15 @@ pub fn take_line(chunk: &[u8], from: usize, line: &mut [u8], len: usize) -> Take
     let mut kept = len;
     while at < chunk.len() {
         let b = chunk[at];
-        at += 1;
         if b == LINE_FEED {
             return Taken {
-                at,
+                at: at + 1,
                 len: kept,
                 whole: true,
             };
         }
         kept = keep(line, kept, b);
+        at += 1;
     }
     Taken {
         at,

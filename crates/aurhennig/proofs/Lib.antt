@@ -1,8 +1,8 @@
+pub mod AnswerLaws
+pub mod CallLaws
 pub mod DecodeLaws
 pub mod Decoding
 pub mod Distinct
-pub mod PieceLaws
-pub mod AnswerLaws
-pub mod CallLaws
-pub mod OneAnswer
 pub mod NeverSix
+pub mod OneAnswer
+pub mod PieceLaws

@@ -11,7 +11,7 @@ use borrow.Author.Tests.{ltb-false, le-ltb}
 use Rattle.rules.specs.Answer.{numberOf}
 use Rattle.rules.specs.Piece.{firstPieces, wholePieces}
 use Rattle.rules.specs.Sum.{firstAt}
-use Rattle.rules.specs.Tests.{Tested, refused, passed, tested, badFrame, badCores, badTasks, badMask, badBudget, shortTable}
+use Rattle.rules.specs.Tests.{Tested, refused, passed, testedSet, tested, badFrame, badCores, badTasks, badMask, badBudget, shortTable}
 use Rattle.rules.specs.Plan.{PlanAnswerAt, Decided, planned, overloaded}
 use Rattle.rules.specs.Line.{digitsAt, wellWritten, lineFrame, lineCores, lineBudgets, lineMasks}
 use Rattle.rules.specs.LineCall.{lentTable, LineAnswerAt, LineAnswer}
@@ -52,7 +52,7 @@ through false false false false false false i j h e = omega arith
 through false false false false false true i j h e = let z : _≡_ {A = ℕ} 0 1 = cc (h refl refl) in omega arith
 
 tested-never-six : (F m : ℕ) (bs ms : List ℕ) → six (tested F m bs ms lentTable) ≡ 6 → ⊥
-unfolding tested
+unfolding tested testedSet
 tested-never-six F m bs ms e =
     through (badFrame F) (badCores m) (badTasks bs ms) (ltb (firstAt (badMask m) ms) (length ms)) (ltb (firstAt (badBudget F) bs) (length bs))
     (shortTable (length bs) m (wholePieces lentTable)) (firstAt (badMask m) ms) (firstAt (badBudget F) bs) (enough m bs ms) e

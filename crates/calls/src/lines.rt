@@ -1,74 +1,65 @@
-// The bytes of the input taken one after another: a line is kept until its line feed comes, and then its answer line is written.
+// A chunk of the input taken line by line: each line's answer line is written into the output.
 // Of a line that is too long the first 99,003 bytes are kept: they are refused as the whole line is.
 use crate::lent::answer_line;
-use libc::STDOUT_FILENO;
-ghost use Prim.Native.Nat.{_≤_};
+use stream::Stage;
+ghost use Prim.Native.Nat.{_+_, _≤_, _<_, min};
 ghost use lib.ListN.{length};
 
-// Whether all could be written, and how many bytes of the begun line are kept.
-pub(crate) struct Taken {
-    pub(crate) ok: bool,
-    pub(crate) len: usize,
-}
-
-// One byte more of a line.
-fn keep(line: &mut [u8], len: usize, b: u8) -> usize
-    requires { ⌜ (99003 ≤ length (now line)) × (len ≤ 99003) ⌝ }
-    ensures { λ r. ⌜ r ≤ 99003 ⌝ }
-{
-    if len < 99003 {
-        line[len] = b;
-        return len + 1;
-    }
-    len
-}
+// The longest answer line with its line feed.
+const LINE_ROOM: usize = 99003;
 
 // The answer line of the line that is kept, and a line feed.
-pub(crate) fn answer(line: &[u8], len: usize, out: &mut [u8]) -> bool
-    requires { ⌜ (len ≤ length (now line)) × (99003 ≤ length (now out)) ⌝ }
+fn answer(line: &[u8], len: usize, out: &mut [u8], used: usize) -> usize
+    requires { ⌜ (len ≤ length (now line)) × (used + 99003 ≤ length (now out)) ⌝ }
+    ensures { λ r. ⌜ r ≤ used + 99003 ⌝ }
 {
-    let n = answer_line(&line[..len], out);
-    out[n] = 10;
-    io::write_all(STDOUT_FILENO, &out[..n + 1])
+    let n = answer_line(&line[..len], &mut out[used..]);
+    out[used + n] = 10;
+    used + n + 1
 }
 
-// One byte of the input.
-fn take(b: u8, line: &mut [u8], len: usize, out: &mut [u8]) -> Taken
-    requires { ⌜ (99003 ≤ length (now line)) × (len ≤ 99003) × (99003 ≤ length (now out)) ⌝ }
-    ensures { λ r. ⌜ r .len ≤ 99003 ⌝ }
+// The next line of a chunk, or what the chunk has of it. A whole line is answered.
+fn next(chunk: &[u8], at: usize, line: &mut [u8], len: usize, out: &mut [u8], used: usize) -> Stage
+    requires { ⌜ (at < length (now chunk)) × (len ≤ length (now line)) × (used + 99003 ≤ length (now out)) ⌝ }
+    ensures { λ r. ⌜ (r .len ≤ length (now (line .entry))) × (r .used ≤ used + 99003) × (r .taken ≤ length (now (chunk .entry))) × (at + 1 ≤ r .taken) ⌝ }
 {
-    if b == 10 {
-        return Taken {
-            ok: answer(line, len, out),
+    let taken = stream::take_line(chunk, at, line, len);
+    let kept = taken.len;
+    if taken.whole {
+        let end = answer(line, kept, out, used);
+        return Stage {
+            taken: taken.at,
             len: 0,
+            used: end,
         };
     }
-    Taken {
-        ok: true,
-        len: keep(line, len, b),
+    Stage {
+        taken: taken.at,
+        len: kept,
+        used,
     }
 }
 
-// The first `n` bytes of a chunk. Where writing fails, it stops.
-pub(crate) fn feed(chunk: &[u8], n: usize, line: &mut [u8], len: usize, out: &mut [u8]) -> Taken
-    requires { ⌜ (n ≤ length (now chunk)) × (99003 ≤ length (now line)) × (len ≤ 99003) × (99003 ≤ length (now out)) ⌝ }
-    ensures { λ r. ⌜ r .len ≤ 99003 ⌝ }
+// Takes the lines of a chunk until it ends or the output has no room for another.
+pub(crate) fn feed(chunk: &[u8], line: &mut [u8], len: usize, out: &mut [u8]) -> Stage
+    requires { ⌜ (len ≤ length (now line)) × (99003 ≤ length (now out)) ⌝ }
+    ensures { λ r. ⌜ (r .len ≤ length (now (line .entry))) × (r .taken ≤ length (now (chunk .entry))) × (min 1 (length (now (chunk .entry))) ≤ r .taken) ⌝ }
 {
-    let mut i = 0;
+    let mut at = 0;
     let mut kept = len;
-    while i < n {
-        let taken = take(chunk[i], line, kept, out);
-        kept = taken.len;
-        if !taken.ok {
-            return Taken {
-                ok: false,
-                len: kept,
-            };
+    let mut filled = 0;
+    while at < chunk.len() {
+        if out.len() - filled < LINE_ROOM {
+            break;
         }
-        i += 1;
+        let stage = next(chunk, at, line, kept, out, filled);
+        at = stage.taken;
+        kept = stage.len;
+        filled = stage.used;
     }
-    Taken {
-        ok: true,
+    Stage {
+        taken: at,
         len: kept,
+        used: filled,
     }
 }

@@ -3,12 +3,42 @@
 mod answers;
 mod lent;
 mod lines;
-mod stream;
 mod words;
+
+use lines::feed;
+use stream::Source;
+ghost use Prim.Native.Nat.{_≤_};
+ghost use lib.ListN.{length};
+
+// One byte more than the longest line that a call can have, 99,002 digits.
+const LINE_BYTES: usize = 99003;
+
+// 65,536 bytes of answers, and the longest one after them.
+const OUTPUT_BYTES: usize = 164539;
+
+// Every chunk of the input, to its end or until reading or writing fails.
+fn answer_all(input: &mut [u8], line: &mut [u8], out: &mut [u8]) -> Source
+    requires { ⌜ 99003 ≤ length (now out) ⌝ }
+{
+    let mut source = stream::start();
+    let mut len = 0;
+    loop {
+        let chunk = stream::more(source, input);
+        let at = chunk.at;
+        let end = chunk.end;
+        if at == end {
+            return chunk;
+        }
+        let stage = feed(&input[at..end], line, len, out);
+        len = stage.len;
+        source = stream::pass_on(chunk, stage.taken, out, stage.used);
+    }
+}
 
 fn main() {
     let mut input = io::large_buffer();
-    let mut line = [0u8; 99003];
-    let mut out = [0u8; 99003];
-    stream::answer_all(&mut input, &mut line, &mut out);
+    let mut line = [0u8; LINE_BYTES];
+    let mut output = [0u8; OUTPUT_BYTES];
+    let end = answer_all(&mut input, &mut line, &mut output);
+    stream::report(b"calls", end);
 }

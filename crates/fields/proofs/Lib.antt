@@ -2,5 +2,5 @@ pub mod DigitLaws
 pub mod FieldLaws
 pub mod PastedLaws
 pub mod ReadBack
-pub mod Unique
 pub mod Taking
+pub mod Unique

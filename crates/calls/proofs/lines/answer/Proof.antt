@@ -1,7 +1,7 @@
 -- `calls::lines::answer` meets its contract.
 -- Assumes nothing.
 use native.Mathlib.Omega.{arith}
-use lib.ListN.{length-set, length-take}
+use lib.ListN.{length-take}
 use borrow.Author.Needs.{needs}
 use Rattle.calls.proofs.lines.answer.Statement.{statement}
 use Rattle.calls.proofs.lines.answer.Tie as tie
@@ -9,23 +9,29 @@ use Rattle.calls.proofs.lines.answer.Tie as tie
 slice-aggregate-answer-line : tie.Need-slice-aggregate-answer-line
 slice-aggregate-answer-line c = simp length-take (omega arith)
 
+sub-answer-line : tie.Need-sub-answer-line
+sub-answer-line c = search needs
+
+part-answer-line-start : tie.Need-part-answer-line-start
+part-answer-line-start c = search needs
+
+part-answer-line-end : tie.Need-part-answer-line-end
+part-answer-line-end c = search needs
+
 answer-line-requires : tie.Need-answer-line-requires
 answer-line-requires c κs = search needs
+
+add-out : tie.Need-add-out
+add-out c = search needs
 
 slice-write-out : tie.Need-slice-write-out
 slice-write-out c = search needs
 
-add-write-all : tie.Need-add-write-all
-add-write-all c = search needs
+add-result : tie.Need-add-result
+add-result c = search needs
 
-slice-reshare-prefix-write-all : tie.Need-slice-reshare-prefix-write-all
-slice-reshare-prefix-write-all c = simp length-set (omega arith)
-
-slice-aggregate-write-all : tie.Need-slice-aggregate-write-all
-slice-aggregate-write-all c = simp (length-take, length-set) (omega arith)
-
-write-all-requires : tie.Need-write-all-requires
-write-all-requires c κs = search needs
+add-result-2 : tie.Need-add-result-2
+add-result-2 c = search needs
 
 same-length : tie.Need-same-length
 same-length c = search needs
@@ -38,11 +44,13 @@ answer-spec =
     tie.close
     (tie.spec
     slice-aggregate-answer-line
+    sub-answer-line
+    part-answer-line-start
+    part-answer-line-end
     answer-line-requires
+    add-out
     slice-write-out
-    add-write-all
-    slice-reshare-prefix-write-all
-    slice-aggregate-write-all
-    write-all-requires
+    add-result
+    add-result-2
     same-length
     returns)

@@ -1,26 +1,34 @@
 -- `calls::lines::feed` meets its contract. The measure is what is left of the chunk.
 -- Assumes nothing.
 use mathlib.Core.Path.{_≡_}
-use Prim.Native.Nat.{_≤_, _-_}
+use Prim.Native.Nat.{_-_, _*_, _≤_}
 use lib.ListN.{length}
 use borrow.Author.Needs.{needs}
 use Rattle.calls.proofs.lines.feed.Statement.{statement}
 use Rattle.calls.proofs.lines.feed.Tie as tie
 
+-- a byte adds at most one line, so the first line is always taken
 abbrev Inv-loop : tie.InvT-loop
-Inv-loop chunk n line₀ len out₀ i₀ kept₀ line out i kept = (i ≤ n) × (kept ≤ 99003) × (length line ≡ length line₀) × (length out ≡ length out₀)
+Inv-loop chunk line₀ len out₀ at₀ kept₀ filled₀ line out at kept filled =
+    (at ≤ length chunk) × (kept ≤ length line₀) × (filled ≤ length out₀) × (filled ≤ 99003 * at) × (length line ≡ length line₀) × (length out ≡ length out₀)
 
 abbrev μ-loop : tie.MeasureT-loop
-μ-loop chunk n line₀ len out₀ i₀ kept₀ line out i kept = n - i
+μ-loop chunk line₀ len out₀ at₀ kept₀ filled₀ line out at kept filled = length chunk - at
 
 loop-holds : tie.Need-loop-holds Inv-loop μ-loop
 loop-holds c = search needs
 
-shared-slice-read-take : tie.Need-shared-slice-read-take Inv-loop μ-loop
-shared-slice-read-take c = search needs
+sub-if1 : tie.Need-sub-if1 Inv-loop μ-loop
+sub-if1 c = search needs
 
-take-requires : tie.Need-take-requires Inv-loop μ-loop
-take-requires c κs = search needs
+next-requires : tie.Need-next-requires Inv-loop μ-loop
+next-requires c κs = search needs
+
+loop-less : tie.Need-loop-less Inv-loop μ-loop
+loop-less c = search needs
+
+loop-again : tie.Need-loop-again Inv-loop μ-loop
+loop-again c = search needs
 
 same-length : tie.Need-same-length Inv-loop μ-loop
 same-length c = search needs
@@ -30,15 +38,6 @@ same-length-2 c = search needs
 
 returns : tie.Need-returns Inv-loop μ-loop
 returns c = search needs
-
-add-i : tie.Need-add-i Inv-loop μ-loop
-add-i c = search needs
-
-loop-less : tie.Need-loop-less Inv-loop μ-loop
-loop-less c = search needs
-
-loop-again : tie.Need-loop-again Inv-loop μ-loop
-loop-again c = search needs
 
 same-length-3 : tie.Need-same-length-3 Inv-loop μ-loop
 same-length-3 c = search needs
@@ -56,14 +55,13 @@ feed-spec =
     Inv-loop
     μ-loop
     loop-holds
-    shared-slice-read-take
-    take-requires
+    sub-if1
+    next-requires
+    loop-less
+    loop-again
     same-length
     same-length-2
     returns
-    add-i
-    loop-less
-    loop-again
     same-length-3
     same-length-4
     returns-2)

@@ -62,7 +62,7 @@ returns : tie.Need-returns
 returns c =
     let call = c .before .before in
     let start = call .before .before .before .before .before in
-    answered _ (start .args .out .now) (start .args .used) (start .args .used + 1906 - start .args .used) _ _ (omega arith) (start .pre .2) (search needs) (call .aurhennig-plan-line .ensures) _ _ refl
+    answered _ (start .args .out .now) (start .args .used) (start .args .used + 1906 - start .args .used) _ _ (omega arith) (start .pre .2) (search needs) (call .aurhennig-plan-line .ensures) _ _ (start .pre .1) refl
 
 pub answer-spec : {M : Type 1} → statement M
 answer-spec =

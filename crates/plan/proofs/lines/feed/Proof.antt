@@ -1,19 +1,20 @@
--- `plan::lines::feed` meets its contract. The loop's invariant is `Feeding`. A byte adds at most one line, so the first byte is always taken.
+-- `plan::lines::feed` meets its contract. The loop's invariant is `Feeding`. A byte adds at most one line, so the first line is always taken.
 -- Assumes nothing.
 use mathlib.Core.Path.{refl}
 use Prim.Native.Nat.{_-_}
 use native.Mathlib.Omega.{arith}
 use lib.ListN.{length}
-use Rattle.plan.proofs.LineLaws.{Feeding, fed-none, fed-more}
+use Rattle.rules.specs.LineCall.{LineAnswer}
+use Rattle.stream.proofs.LineLaws.{Feeding, fed-none, fed-more}
 use borrow.Author.Needs.{needs}
 use Rattle.plan.proofs.lines.feed.Statement.{statement}
 use Rattle.plan.proofs.lines.feed.Tie as tie
 
 abbrev Inv-loop : tie.InvT-loop
-Inv-loop chunk line₀ len out₀ used i₀ kept₀ filled₀ line out i kept filled = Feeding chunk line₀ len out₀ used line out i kept filled
+Inv-loop chunk line₀ len out₀ used at₀ kept₀ filled₀ line out at kept filled = Feeding LineAnswer 1907 chunk line₀ len out₀ used line out at kept filled
 
 abbrev μ-loop : tie.MeasureT-loop
-μ-loop chunk line₀ len out₀ used i₀ kept₀ filled₀ line out i kept filled = length chunk - i
+μ-loop chunk line₀ len out₀ used at₀ kept₀ filled₀ line out at kept filled = length chunk - at
 
 loop-holds : tie.Need-loop-holds Inv-loop μ-loop
 loop-holds c =
@@ -23,14 +24,8 @@ loop-holds c =
 sub-if1 : tie.Need-sub-if1 Inv-loop μ-loop
 sub-if1 c = search needs
 
-shared-slice-read-take : tie.Need-shared-slice-read-take Inv-loop μ-loop
-shared-slice-read-take c = search needs
-
-take-requires : tie.Need-take-requires Inv-loop μ-loop
-take-requires c κs = search needs
-
-add-i : tie.Need-add-i Inv-loop μ-loop
-add-i c = search needs
+next-requires : tie.Need-next-requires Inv-loop μ-loop
+next-requires c κs = search needs
 
 loop-less : tie.Need-loop-less Inv-loop μ-loop
 loop-less c = search needs
@@ -38,17 +33,17 @@ loop-less c = search needs
 loop-again : tie.Need-loop-again Inv-loop μ-loop
 loop-again c =
     let took = c .before .before .before .before in
-    let room = took .before .before .before .before in
+    let room = took .before .before .before in
     let turn = room .before in
     let inv = turn .before .loop .inv in
     record {
-      few = took .take .ensures .few;
-      within = omega (arith, took .take .ensures .within, inv .out-long, room .if1 .left);
-      taken = omega (arith, turn .loop-test .taken);
-      slow = omega (arith, took .take .ensures .within, inv .slow);
+      few = omega (arith, took .next .ensures .few, inv .line-long);
+      within = omega (arith, took .next .ensures .within, inv .out-long, room .if1 .left);
+      taken = took .next .ensures .taken;
+      slow = omega (arith, took .next .ensures .within, took .next .ensures .some, inv .slow);
       line-long = search needs;
       out-long = search needs;
-      fed = λ l h. fed-more l _ _ _ _ _ _ _ (turn .before .loop .i) _ _ _ _ (turn .loop-test .taken) (inv .within) (inv .fed l h) (took .take .ensures .took);
+      fed = λ l h. fed-more l _ _ _ _ _ _ _ (turn .before .loop .at) _ _ _ _ _ (omega (arith, took .next .ensures .some)) (inv .fed l h) (took .next .ensures .took);
     }
 
 same-length : tie.Need-same-length Inv-loop μ-loop
@@ -81,9 +76,7 @@ feed-spec =
     μ-loop
     loop-holds
     sub-if1
-    shared-slice-read-take
-    take-requires
-    add-i
+    next-requires
     loop-less
     loop-again
     same-length

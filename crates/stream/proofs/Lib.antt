@@ -1,0 +1,3 @@
+pub mod TakeLaws
+pub mod LineLaws
+pub mod Unique

@@ -1,7 +1,7 @@
 -- "there 6 can't occur, as it lends 95 pieces": no line is answered with 6.
 -- Assumes nothing.
 use mathlib.Core.Path.{_≡_, refl, sym, _∙_, ap}
-use mathlib.Core.Bool.{Bool, true, false, cond, not, _||_}
+use mathlib.Core.Bool.{Bool, true, false, cond, not}
 use mathlib.Core.List.{List, []}
 use Prim.Native.Nat.{ℕ, _+_, _*_}
 use native.Mathlib.Omega.{arith}
@@ -11,21 +11,14 @@ use borrow.Author.Tests.{ltb-false, le-ltb}
 use Rattle.rules.specs.Answer.{numberOf}
 use Rattle.rules.specs.Piece.{firstPieces, wholePieces}
 use Rattle.rules.specs.Sum.{firstAt}
-use Rattle.rules.specs.Tests.{Tested, refused, passed, testedSet, tested, badFrame, badCores, badTasks, badMask, badBudget, shortTable}
+use Rattle.rules.specs.Tests.{Tested, refused, passed, testedSet, thenRoom, tested, badFrame, badCores, badTasks, badMask, badBudget, shortTable}
 use Rattle.rules.specs.Plan.{PlanAnswerAt, Decided, planned, overloaded}
 use Rattle.rules.specs.Line.{digitsAt, wellWritten, lineFrame, lineCores, lineBudgets, lineMasks}
 use Rattle.rules.specs.LineCall.{lentTable, LineAnswerAt, LineAnswer}
-use Rattle.rules.specs.declared.Answer.the-variants.{FrameLength, CoreCount, TaskCount, Mask, Budget, ShortTable, BadLine}
+use Rattle.rules.specs.declared.Answer.the-variants.{FrameLength, CoreCount, TaskCount, Mask, Budget, BadLine}
 use Rattle.rules.specs.declared.Planned.{Planned}
+use Rattle.sums.proofs.Both.{or-left, or-right}
 use Rattle.aurhennig.proofs.Distinct.{number-back}
-
-or-right : (a b : Bool) → a || b ≡ false → b ≡ false
-or-right true b e = cc
-or-right false b e = e
-
-or-left : (a b : Bool) → a || b ≡ false → a ≡ false
-or-left true b e = e
-or-left false b e = refl
 
 -- at most 64 tasks and 16 cores need at most 95 pieces
 enough : (m : ℕ) (bs ms : List ℕ) → badCores m ≡ false → badTasks bs ms ≡ false → shortTable (length bs) m (wholePieces lentTable) ≡ false
@@ -40,7 +33,7 @@ six passed = 0
 
 -- no way through the tests ends at 6
 through : (f c t k b s : Bool) (i j : ℕ) → (c ≡ false → t ≡ false → s ≡ false)
-    → six (cond f (refused FrameLength) (cond c (refused CoreCount) (cond t (refused TaskCount) (cond k (refused (Mask i)) (cond b (refused (Budget j)) (cond s (refused ShortTable) passed)))))) ≡ 6
+    → six (thenRoom s (cond f (refused FrameLength) (cond c (refused CoreCount) (cond t (refused TaskCount) (cond k (refused (Mask i)) (cond b (refused (Budget j)) passed)))))) ≡ 6
     → ⊥
 unfolding six
 through true c t k b s i j h e = omega arith

@@ -1,7 +1,7 @@
 // Pieces in the lent table, four numbers each: core, task, start, length. A piece is put in by its start.
 ghost use mathlib.Core.Path.{_≡_};
 ghost use mathlib.Core.List.{[], _∷_};
-ghost use Prim.Native.Nat.{_+_, _-_, _*_, _≤_, _<_};
+ghost use Prim.Native.Nat.{_+_, _*_, _≤_, _<_};
 ghost use lib.ListN.{length, set};
 ghost use Rattle.rules.specs.Sizes.{maxFrame};
 ghost use Rattle.layout.specs.Pieces.{mostPieces, Room, Placed, gap, Inserts, pieceOf, cutOf};

@@ -8,11 +8,11 @@ use lib.ListN.{length, drop}
 use Rattle.rules.specs.Piece.{numbersOf}
 use Rattle.rules.specs.Table.{tableOf}
 use Rattle.stretches.specs.Cell.{cell}
-use Rattle.layout.specs.Laid.{Fits, LayAnswer, laid, unfit}
-use Rattle.layout.specs.Fitting.{Tells}
+use Rattle.fitting.specs.Fits.{Fits, Tells}
+use Rattle.layout.specs.Laid.{LayAnswer, laid, unfit}
 use Rattle.layout.specs.declared.Laid.{Laid}
 use Rattle.layout.specs.declared.Laid.the-variants.{Pieces, Unfit}
-use Rattle.layout.proofs.FittingLaws.{told-yes}
+use Rattle.fitting.proofs.FittingLaws.{told-yes}
 
 abbrev isLaid : Laid → Bool
 isLaid (Pieces c) = true

@@ -18,7 +18,7 @@ use Rattle.stretches.proofs.Bounds.{bounded-more, bounded-visits}
 use Rattle.stretches.proofs.Lengths.{cores-length}
 use Rattle.stretches.proofs.Cells.{cell-at}
 use Rattle.stretches.proofs.Agree.{layout-agree, cores-agree}
-use Rattle.layout.specs.Laid.{Fits}
+use Rattle.fitting.specs.Fits.{Fits}
 use Rattle.layout.specs.Walking.{walkOf, latestStart, Kept}
 use Rattle.layout.specs.Pieces.{mostPieces, coresPieces, OnCores}
 use Rattle.layout.specs.declared.walking.Marks.{Marks}

@@ -1,6 +1,5 @@
 pub mod AheadLaws
 pub mod Answered
-pub mod FittingLaws
 pub mod GapLaws
 pub mod InsertLaws
 pub mod LayLaws

@@ -1,4 +1,3 @@
-pub mod Fitting
 pub mod Laid
 pub mod Pieces
 pub mod Walking

@@ -7,7 +7,7 @@ ghost use lib.ListN.{length, drop};
 ghost use Rattle.rules.specs.Piece.{numbersOf};
 ghost use Rattle.rules.specs.Table.{tableOf};
 ghost use Rattle.stretches.specs.Cell.{cell};
-ghost use Rattle.layout.specs.Laid.{Fits};
+ghost use Rattle.fitting.specs.Fits.{Fits};
 ghost use Rattle.layout.specs.Pieces.{Room, taskPieces, corePieces, coresPieces, Inserts, Appends, OnCore, OnCores};
 use crate::before::ahead_on_core;
 use crate::pieces::Part;

@@ -1,6 +1,5 @@
 // From units to the table of pieces: document 01, "From allocation to table", for any units that fit.
 mod before;
-mod fitting;
 mod laying;
 mod pieces;
 mod walking;

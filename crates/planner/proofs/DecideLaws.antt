@@ -17,7 +17,8 @@ use Rattle.rules.specs.declared.Planned.{Planned}
 use Rattle.stretches.specs.Cell.{cell}
 use Rattle.forest.specs.Peeled.{Peeled}
 use Rattle.forest.specs.Ring.{Kept}
-use Rattle.layout.specs.Laid.{Fits, LayAnswer}
+use Rattle.fitting.specs.Fits.{Fits}
+use Rattle.layout.specs.Laid.{LayAnswer}
 use Rattle.layout.specs.declared.Laid.{Laid}
 use Rattle.layout.specs.declared.Laid.the-variants.{Pieces, Unfit}
 use Rattle.layout.proofs.Answered.{fits-laid, fits-unfit}

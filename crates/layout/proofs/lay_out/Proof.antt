@@ -2,7 +2,7 @@
 -- Assumes nothing.
 use borrow.Author.Needs.{needs}
 use mathlib.Core.Path.{refl}
-use Rattle.layout.proofs.FittingLaws.{told-yes, told-no}
+use Rattle.fitting.proofs.FittingLaws.{told-yes, told-no}
 use Rattle.layout.specs.Laid.{unfit}
 use Rattle.layout.proofs.Answered.{laid-by}
 use Rattle.layout.proofs.lay_out.Statement.{statement}

@@ -1,9 +1,9 @@
 -- `fitting::one_if_used` meets its contract.
 -- Assumes nothing.
 use borrow.Author.Needs.{needs}
-use Rattle.layout.proofs.FittingLaws.{used-some}
-use Rattle.layout.proofs.fitting.one_if_used.Statement.{statement}
-use Rattle.layout.proofs.fitting.one_if_used.Tie as tie
+use Rattle.fitting.proofs.FittingLaws.{used-some}
+use Rattle.fitting.proofs.one_if_used.Statement.{statement}
+use Rattle.fitting.proofs.one_if_used.Tie as tie
 
 returns : tie.Need-returns
 returns c = search needs

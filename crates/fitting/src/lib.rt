@@ -1,11 +1,11 @@
-// Whether units fit, by one look at each row and one at each column. A unit may be any 32-bit number, so the sums are of 64 bits.
+// Whether units may be laid out as a table: sizes, rows, columns and room, by one look at each row and one at each column. A unit may be any 32-bit number, so the sums are of 64 bits.
 ghost use mathlib.Core.Path.{_≡_};
 ghost use Prim.Native.Nat.{_^_, _≤_, _<_};
 ghost use Rattle.rules.specs.Sizes.{maxTasks, maxCores};
 ghost use Rattle.rules.specs.Sum.{positive};
 ghost use Rattle.stretches.specs.Cell.{cell};
-ghost use Rattle.layout.specs.Laid.{Fits};
-ghost use Rattle.layout.specs.Fitting.{Tells, Sized, AtMost, rowOf, columnOf, usedOf, RowsAnswer};
+ghost use Rattle.fitting.specs.Fits.{Fits, Tells};
+ghost use Rattle.fitting.specs.Fitting.{Sized, AtMost, rowOf, columnOf, usedOf, RowsAnswer};
 
 // A unit as a term of a sum of 64 bits.
 fn wide(unit: u32) -> u64
@@ -49,7 +49,7 @@ fn row_of(units: &[u32; 1024], task: usize, cores: usize) -> Row
 }
 
 // What the rows hold: the number of used cells, or a row above the frame.
-pub(crate) enum Rows {
+enum Rows {
     Used(usize),
     Above,
 }
@@ -123,7 +123,7 @@ fn sizes_fit(frame: u32, tasks: usize, cores: usize) -> bool
 }
 
 // Whether the units fit, with room for `room` pieces.
-pub(crate) fn units_fit(
+pub fn units_fit(
     frame: u32,
     tasks: usize,
     cores: usize,

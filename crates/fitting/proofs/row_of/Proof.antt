@@ -6,8 +6,8 @@ use Prim.Native.Nat.{_-_, _*_, _^_, _≤_}
 use Rattle.rules.specs.Sum.{sumTo, positive}
 use Rattle.stretches.specs.Cell.{cell}
 use Rattle.sums.proofs.SumLoops.{sum-none, sum-more, sum-done}
-use Rattle.layout.proofs.fitting.row_of.Statement.{statement}
-use Rattle.layout.proofs.fitting.row_of.Tie as tie
+use Rattle.fitting.proofs.row_of.Statement.{statement}
+use Rattle.fitting.proofs.row_of.Tie as tie
 
 abbrev Inv-loop : tie.InvT-loop
 Inv-loop units task cores sum₀ used₀ j₀ sum used j = (j ≤ cores) × (sum ≡ sumTo j (cell units task)) × (used ≡ sumTo j (λ k. positive (cell units task k))) × (sum ≤ j * 2 ^ 32) × (used ≤ j)

@@ -2,9 +2,9 @@
 -- Assumes nothing.
 use borrow.Author.Needs.{needs}
 use native.Mathlib.Omega.{arith}
-use Rattle.layout.proofs.FittingLaws.{says-no, cores-told}
-use Rattle.layout.proofs.fitting.sizes_fit.Statement.{statement}
-use Rattle.layout.proofs.fitting.sizes_fit.Tie as tie
+use Rattle.fitting.proofs.FittingLaws.{says-no, cores-told}
+use Rattle.fitting.proofs.sizes_fit.Statement.{statement}
+use Rattle.fitting.proofs.sizes_fit.Tie as tie
 
 returns : tie.Need-returns
 returns c = says-no (λ s. omega (arith, s .frame-some))

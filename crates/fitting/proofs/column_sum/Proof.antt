@@ -6,8 +6,8 @@ use Prim.Native.Nat.{_-_, _*_, _^_, _≤_}
 use Rattle.rules.specs.Sum.{sumTo}
 use Rattle.stretches.specs.Cell.{cell}
 use Rattle.sums.proofs.SumLoops.{sum-none, sum-more, sum-done}
-use Rattle.layout.proofs.fitting.column_sum.Statement.{statement}
-use Rattle.layout.proofs.fitting.column_sum.Tie as tie
+use Rattle.fitting.proofs.column_sum.Statement.{statement}
+use Rattle.fitting.proofs.column_sum.Tie as tie
 
 abbrev Inv-loop : tie.InvT-loop
 Inv-loop units core tasks sum₀ i₀ sum i = (i ≤ tasks) × (sum ≡ sumTo i (λ k. cell units k core)) × (sum ≤ i * 2 ^ 32)

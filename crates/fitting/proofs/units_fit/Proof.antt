@@ -2,9 +2,9 @@
 -- Assumes nothing.
 use borrow.Author.Needs.{needs}
 use native.Mathlib.Omega.{arith}
-use Rattle.layout.proofs.FittingLaws.{says-no, told-yes, told-no, fits-sized, fits-told}
-use Rattle.layout.proofs.fitting.units_fit.Statement.{statement}
-use Rattle.layout.proofs.fitting.units_fit.Tie as tie
+use Rattle.fitting.proofs.FittingLaws.{says-no, told-yes, told-no, fits-sized, fits-told}
+use Rattle.fitting.proofs.units_fit.Statement.{statement}
+use Rattle.fitting.proofs.units_fit.Tie as tie
 
 sizes-fit-requires : tie.Need-sizes-fit-requires
 sizes-fit-requires c κs = search needs

@@ -1,18 +1,12 @@
--- What the tests of `fitting` answer, each for a part of `Fits`.
+-- What the tests answer, each for a part of `Fits`.
 -- These make the proofs easy and need no belief.
 -- Assumes nothing.
 use mathlib.Core.Path.{_≡_}
-use mathlib.Core.Bool.{Bool, true, false}
 use Prim.Native.Nat.{ℕ, _*_, _≤_, _<_}
 use Rattle.rules.specs.Sizes.{maxFrame, maxTasks, maxCores}
 use Rattle.rules.specs.Sum.{sumTo, positive}
-use Rattle.layout.specs.declared.fitting.Rows.{Rows}
-use Rattle.layout.specs.declared.fitting.Rows.the-variants.{Used, Above}
-
--- r says whether P holds
-pub record Tells (P : Type 0) (r : Bool) : Type 0 where
-  pub yes : r ≡ true → P
-  pub no : r ≡ false → P → ⊥
+use Rattle.fitting.specs.declared.Rows.{Rows}
+use Rattle.fitting.specs.declared.Rows.the-variants.{Used, Above}
 
 -- sizes as document 01 has them
 pub record Sized (F n m : ℕ) : Type 0 where

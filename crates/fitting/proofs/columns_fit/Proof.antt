@@ -3,10 +3,10 @@
 use borrow.Author.Needs.{needs}
 use Prim.Native.Nat.{_-_, _≤_}
 use Rattle.stretches.specs.Cell.{cell}
-use Rattle.layout.specs.Fitting.{AtMost, columnOf}
-use Rattle.layout.proofs.FittingLaws.{says-yes, says-no, most-none, most-more, most-above, most-done}
-use Rattle.layout.proofs.fitting.columns_fit.Statement.{statement}
-use Rattle.layout.proofs.fitting.columns_fit.Tie as tie
+use Rattle.fitting.specs.Fitting.{AtMost, columnOf}
+use Rattle.fitting.proofs.FittingLaws.{says-yes, says-no, most-none, most-more, most-above, most-done}
+use Rattle.fitting.proofs.columns_fit.Statement.{statement}
+use Rattle.fitting.proofs.columns_fit.Tie as tie
 
 abbrev Inv-loop : tie.InvT-loop
 Inv-loop units tasks cores frame most j₀ j = (j ≤ cores) × AtMost frame j (columnOf tasks (cell units))

@@ -11,8 +11,8 @@ use Rattle.rules.specs.Sizes.{maxFrame, maxTasks, maxCores}
 use Rattle.rules.specs.Sum.{positive}
 use Rattle.sums.proofs.Sum.{positive-of}
 use Rattle.sums.proofs.SumLoops.{sum-none, sum-more, sum-done}
-use Rattle.layout.specs.Laid.{Fits}
-use Rattle.layout.specs.Fitting.{Tells, Sized, AtMost, rowOf, columnOf, usedOf, Counted}
+use Rattle.fitting.specs.Fits.{Fits, Tells}
+use Rattle.fitting.specs.Fitting.{Sized, AtMost, rowOf, columnOf, usedOf, Counted}
 
 pub used-some : (v : ℕ) → (v ≡ 0 → ⊥) → (1 ≡ positive v) × (1 < 2)
 used-some v ne = (sym (positive-of v (omega arith)), omega arith)

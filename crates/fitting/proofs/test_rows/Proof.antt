@@ -3,10 +3,10 @@
 use borrow.Author.Needs.{needs}
 use Prim.Native.Nat.{_-_, _≤_}
 use Rattle.stretches.specs.Cell.{cell}
-use Rattle.layout.specs.Fitting.{Counted}
-use Rattle.layout.proofs.FittingLaws.{counted-none, counted-more, counted-above, counted-done}
-use Rattle.layout.proofs.fitting.test_rows.Statement.{statement}
-use Rattle.layout.proofs.fitting.test_rows.Tie as tie
+use Rattle.fitting.specs.Fitting.{Counted}
+use Rattle.fitting.proofs.FittingLaws.{counted-none, counted-more, counted-above, counted-done}
+use Rattle.fitting.proofs.test_rows.Statement.{statement}
+use Rattle.fitting.proofs.test_rows.Tie as tie
 
 abbrev Inv-loop : tie.InvT-loop
 Inv-loop units tasks cores frame most used₀ t₀ used t = (t ≤ tasks) × Counted frame t cores (cell units) used

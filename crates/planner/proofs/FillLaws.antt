@@ -17,7 +17,7 @@ use Rattle.planner.specs.Fill.{Filling, FillReady, Copied, raise, lower}
 use Rattle.planner.specs.Back.{PlacedOn}
 use Rattle.planner.specs.Search.{Sized}
 use Rattle.planner.proofs.StepLaws.{placed, place-fits}
-use Rattle.planner.proofs.ShiftLaws.{settle-done}
+use Rattle.planner.proofs.StepBackLaws.{place-done}
 
 -- a list of zeros has no units anywhere
 pub zeros : (n k : ℕ) → at (replicate n 0) k ≡ 0
@@ -81,7 +81,7 @@ module _ {units left room : List ℕ} {t j mask a : ℕ} (bit : a ≡ has mask j
 
   pub on-inside : {d : ℕ} {u l r : List ℕ} → (a ≡ 0 → ⊥) → d ≡ min (at left t) (at room j) → u ≡ raise units (t * 16 + j) d → l ≡ lower left t d
       → r ≡ lower room j d → PlacedOn units left room t j mask u l r
-  on-inside ne e p q s = record { outside = λ z. absurd (ne (bit ∙ z)); inside = λ o. settle-done e p q s }
+  on-inside ne e p q s = record { outside = λ z. absurd (ne (bit ∙ z)); inside = λ o. place-done e p q s }
 
 module _ {F m : ℕ} {budgets masks units left room : List ℕ} {t j : ℕ} (f : Filling F m budgets masks units left room) (t-in : t < length budgets)
     (j-in : j < m) where

@@ -14,7 +14,7 @@ use Rattle.sums.proofs.Sets.{has-none, has-below}
 use Rattle.stretches.specs.Cell.{cell}
 use Rattle.overload.specs.Flow.{Closed, Stuck}
 use Rattle.planner.specs.declared.search.Seen.{Seen}
-use Rattle.planner.specs.Search.{Found, Swept, Sized, Sought, Way, nothing}
+use Rattle.planner.specs.Search.{Found, Swept, Sized, Sought, WayBack, nothing}
 use Rattle.planner.proofs.SearchLaws.{short, counted-nothing}
 
 never : {A : Type 0} {k : ℕ} → k < 0 → A
@@ -128,7 +128,7 @@ module _ {n m : ℕ} {masks units left room queue via from : List ℕ} where
         units-at : (t p r : ℕ) → at queue p ≡ at queue r → 0 < cell units t (at queue p) → 0 < cell units t (at queue r)
         units-at t p r e u = rw e at u
 
-    pub sought-room : h < s .tail → 0 < at room (at queue h) → Way n m masks units left room queue via from h
+    pub sought-room : h < s .tail → 0 < at room (at queue h) → WayBack n m masks units left room queue via from h
     sought-room l u =
         record {
           place = place-small l .0;

@@ -84,7 +84,7 @@ pub record Sought (n m : ℕ) (masks units left room queue via from : List ℕ) 
 
 -- the way back from the place p, whose core has room: at each place a task whose mask holds its core; if it lacks nothing, it has units on
 -- the core of an earlier place
-pub record Way (n m : ℕ) (masks units left room queue via from : List ℕ) (p : ℕ) : Type 0 where
+pub record WayBack (n m : ℕ) (masks units left room queue via from : List ℕ) (p : ℕ) : Type 0 where
   pub place : p < 16
   pub core : (r : ℕ) → r ≤ p → at queue r < m
   pub task : (r : ℕ) → r ≤ p → at via r < n
@@ -95,5 +95,5 @@ pub record Way (n m : ℕ) (masks units left room queue via from : List ℕ) (p 
 
 -- what the search answers
 abbrev pub Sight : (n m : ℕ) → (masks units left room queue via from : List ℕ) → Outcome → Type 0
-Sight n m masks units left room queue via from (Room p) = Way n m masks units left room queue via from p
+Sight n m masks units left room queue via from (Room p) = WayBack n m masks units left room queue via from p
 Sight n m masks units left room queue via from (Closed g c) = Stuck n m (at masks) (cell units) (at left) (at room) g c

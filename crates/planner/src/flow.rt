@@ -8,13 +8,13 @@ ghost use Rattle.rules.specs.Plan.{at};
 ghost use Rattle.planner.specs.Fill.{Filling, FillReady, Copied};
 ghost use Rattle.planner.specs.Back.{ShiftFits, Shifted, PlaceFits, Placed, PlacedOn, Reads, backward, lacking};
 ghost use Rattle.planner.specs.Filled.{FilledBy, PassBy};
-use overload::excess;
 use crate::search::Outcome;
 use crate::search::seek;
-use sets::core_in;
-use crate::steps::least;
+use crate::steps::lesser;
 use crate::steps::place;
 use crate::steps::take;
+use overload::excess;
+use sets::core_in;
 
 // All budgets have their units, or the smallest group of greatest excess lacks some, with the union of its masks.
 pub(crate) enum Filled {
@@ -74,14 +74,14 @@ fn step_back(
     let q = from[t];
     let core = queue[p];
     let earlier = queue[q];
-    let d = least(room[core], units[t * 16 + earlier]);
+    let d = lesser(room[core], units[t * 16 + earlier]);
     take(units, left, room, t, earlier, d);
     place(units, left, room, t, core, d);
     q
 }
 
 // The end of the way back: the task at the place p lacks units, and the core there has room.
-fn settle(
+fn place_last(
     units: &mut [u32; 1024],
     left: &mut [u32; 64],
     room: &mut [u32; 16],
@@ -114,7 +114,7 @@ fn settle(
 {
     let t = via[p];
     let core = queue[p];
-    let d = least(room[core], left[t]);
+    let d = lesser(room[core], left[t]);
     place(units, left, room, t, core, d);
 }
 
@@ -169,7 +169,7 @@ fn advance(
             while left[via[p]] == 0 {
                 p = step_back(units, left, room, queue, via, from, p);
             }
-            settle(units, left, room, queue, via, p);
+            place_last(units, left, room, queue, via, p);
             Pass::More
         }
     }
@@ -213,7 +213,7 @@ fn place_on(
     if core_in(mask, j) == 0 {
         return;
     }
-    let d = least(left[t], room[j]);
+    let d = lesser(left[t], room[j]);
     place(units, left, room, t, j, d);
 }
 

@@ -5,7 +5,7 @@ ghost use Rattle.rules.specs.Plan.{at};
 ghost use Rattle.stretches.specs.Cell.{cell};
 ghost use Rattle.planner.specs.Fill.{raise, lower};
 
-pub(crate) fn least(a: u32, b: u32) -> u32
+pub(crate) fn lesser(a: u32, b: u32) -> u32
     ensures { λ r. ⌜ r ≡ min a b ⌝ }
 {
     if a < b { a } else { b }

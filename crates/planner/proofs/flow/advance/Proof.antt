@@ -3,15 +3,15 @@ use mathlib.Core.Path.{_≡_, refl}
 use lib.ListN.{length}
 use native.Mathlib.Omega.{arith}
 use Rattle.planner.specs.Fill.{Filling}
-use Rattle.planner.specs.Search.{Way}
-use Rattle.planner.proofs.BackLaws.{way-small, back-ready, back-kept, last-ready, last-kept, back-small, way-paired}
-use Rattle.planner.proofs.EndLaws.{ended-whole, ended-short}
+use Rattle.planner.specs.Search.{WayBack}
+use Rattle.planner.proofs.WayBackLaws.{way-small, back-ready, back-kept, last-ready, last-kept, back-small, way-paired}
+use Rattle.planner.proofs.EndedLaws.{ended-whole, ended-short}
 use borrow.Author.Needs.{needs}
 use Rattle.planner.proofs.flow.advance.Statement.{statement}
 use Rattle.planner.proofs.flow.advance.Tie as tie
 
 abbrev Inv-loop : tie.InvT-loop
-Inv-loop frame cores budgets masks units₀ left₀ room₀ queue via from hit p₀ units left room p = Filling frame cores budgets masks units left room × Way (length budgets) cores masks units left room queue via from p × (left ≡ left₀)
+Inv-loop frame cores budgets masks units₀ left₀ room₀ queue via from hit p₀ units left room p = Filling frame cores budgets masks units left room × WayBack (length budgets) cores masks units left room queue via from p × (left ≡ left₀)
 
 abbrev μ-loop : tie.MeasureT-loop
 μ-loop frame cores budgets masks units₀ left₀ room₀ queue via from hit p₀ units left room p = p
@@ -55,14 +55,14 @@ loop-less c = omega (arith, c .step-back .ensures .0, back-small (c .before .bef
 loop-again : tie.Need-loop-again Inv-loop μ-loop
 loop-again c = back-kept (c .before .before .before .before .before .before .before .before .before .before .loop .inv .0) (c .before .before .before .before .before .before .before .before .before .before .loop .inv .1) (c .before .before .before .before .before .before .before .if2 .taken) (c .before .before .before .before .before .before .before .before .before .before .loop .inv .2) (c .step-back .ensures .0) (c .step-back .ensures .1)
 
-settle-requires : tie.Need-settle-requires Inv-loop μ-loop
-settle-requires c κs = last-ready (c .before .before .before .before .before .before .before .before .loop .inv .0) (c .before .before .before .before .before .before .before .before .loop .inv .1)
+place-last-requires : tie.Need-place-last-requires Inv-loop μ-loop
+place-last-requires c κs = last-ready (c .before .before .before .before .before .before .before .before .loop .inv .0) (c .before .before .before .before .before .before .before .before .loop .inv .1)
 
 returns-2 : tie.Need-returns-2 Inv-loop μ-loop
 returns-2 c = (c .before .before .before .before .before .seek .ensures .0, ended-short (c .before .before .before .before .before .before .before .before .before .before .before .before .before .before .pre .0) (rw (c .before .before .before .found .given .1) at (c .before .before .before .before .before .seek .ensures .1)) (c .before .excess .ensures) (c .if1 .left))
 
 returns-3 : tie.Need-returns-3 Inv-loop μ-loop
-returns-3 c = (c .before .before .before .before .before .before .before .before .before .before .before .before .before .seek .ensures .0, last-kept (c .before .before .before .before .before .before .before .before .before .loop .inv .0) (c .before .before .before .before .before .before .before .before .before .loop .inv .1) (c .before .before .before .before .before .before .if2 .left) (c .before .before .before .before .before .before .before .before .before .loop .inv .2) (c .settle .ensures))
+returns-3 c = (c .before .before .before .before .before .before .before .before .before .before .before .before .before .seek .ensures .0, last-kept (c .before .before .before .before .before .before .before .before .before .loop .inv .0) (c .before .before .before .before .before .before .before .before .before .loop .inv .1) (c .before .before .before .before .before .before .if2 .left) (c .before .before .before .before .before .before .before .before .before .loop .inv .2) (c .place-last .ensures))
 
 pub advance-spec : {M : Type 1} → statement M
 advance-spec =
@@ -83,6 +83,6 @@ advance-spec =
     step-back-requires
     loop-less
     loop-again
-    settle-requires
+    place-last-requires
     returns-2
     returns-3)

@@ -21,6 +21,6 @@ module _ {units left room u l r : List ℕ} {t j k d e : ℕ} (amount : e ≡ d)
         room-now = s ∙ rw (room-taken, amount);
       }
 
-pub settle-done : {units left room u l r : List ℕ} {t k d e : ℕ} → e ≡ d → u ≡ raise units (t * 16 + k) e → l ≡ lower left t e → r ≡ lower room k e
+pub place-done : {units left room u l r : List ℕ} {t k d e : ℕ} → e ≡ d → u ≡ raise units (t * 16 + k) e → l ≡ lower left t e → r ≡ lower room k e
     → Placed units left room t k d u l r
-settle-done amount p q s = record { units-now = p ∙ rw amount; left-now = q ∙ rw amount; room-now = s ∙ rw amount }
+place-done amount p q s = record { units-now = p ∙ rw amount; left-now = q ∙ rw amount; room-now = s ∙ rw amount }

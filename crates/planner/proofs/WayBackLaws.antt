@@ -15,13 +15,13 @@ use Rattle.sums.proofs.Sum.{sum-but-one}
 use Rattle.sums.proofs.Sets.{has-one}
 use Rattle.stretches.specs.Cell.{cell}
 use Rattle.planner.specs.Fill.{Filling, raise, lower}
-use Rattle.planner.specs.Search.{Way}
+use Rattle.planner.specs.Search.{WayBack}
 use Rattle.planner.specs.Back.{ShiftFits, Shifted, PlaceFits, Placed, Reads, backward, lacking}
 use Rattle.planner.specs.Filled.{MoreBy}
 use Rattle.planner.proofs.StepLaws.{raise-same, raise-other, lower-same, lower-other, raise-lower, taken, placed, place-fits, take-fits}
 
 module _ {F m : ℕ} {budgets masks units left room queue via from : List ℕ} (f : Filling F m budgets masks units left room) where
-  module _ {p : ℕ} (w : Way (length budgets) m masks units left room queue via from p) where
+  module _ {p : ℕ} (w : WayBack (length budgets) m masks units left room queue via from p) where
     pub way-small : (p < 16) × (at via p < 64) × (at queue p < 16)
     way-small = (w .place, omega (arith, w .task p (le-refl p), f .given .tasks), omega (arith, w .core p (le-refl p), f .given .cores))
 
@@ -157,7 +157,7 @@ module _ {F m : ℕ} {budgets masks units left room queue via from : List ℕ} (
             same : at queue (at from (at via p)) ≡ at queue p → 0 < at (lower (raise room (at queue (at from (at via p))) d) (at queue p) d) (at queue (at from (at via p)))
             same s = rw s (rw (raise-lower room (at queue p) d (omega (arith, way-small, f .room-long))) (w .room-there))
 
-        pub shift-way : Way (length budgets) m masks (raise (lower units (at via p * 16 + at queue (at from (at via p))) d) (at via p * 16 + at queue p) d) left (lower (raise room (at queue (at from (at via p))) d) (at queue p) d) queue via from (at from (at via p))
+        pub shift-way : WayBack (length budgets) m masks (raise (lower units (at via p * 16 + at queue (at from (at via p))) d) (at via p * 16 + at queue p) d) left (lower (raise room (at queue (at from (at via p))) d) (at queue p) d) queue via from (at from (at via p))
         unfolding units₂ room₂
         shift-way =
             record {
@@ -185,7 +185,7 @@ module _ {F m : ℕ} {budgets masks units left room queue via from : List ℕ} (
 -- ---- as the code takes the steps
 
 module _ {F m : ℕ} {budgets masks units left room queue via from : List ℕ} {p : ℕ} (f : Filling F m budgets masks units left room)
-    (w : Way (length budgets) m masks units left room queue via from p) where
+    (w : WayBack (length budgets) m masks units left room queue via from p) where
   pub back-ready : at left (at via p) ≡ 0
       → Reads queue via from p × ShiftFits units left room (at via p) (at queue (at from (at via p))) (at queue p) (backward units room queue via from p)
   back-ready z = (
@@ -211,7 +211,7 @@ module _ {F m : ℕ} {budgets masks units left room queue via from : List ℕ} {
 
   pub back-kept : {units' left' room' start : List ℕ} {r : ℕ} → at left (at via p) ≡ 0 → left ≡ start → r ≡ at from (at via p)
       → Shifted units left room (at via p) (at queue (at from (at via p))) (at queue p) (backward units room queue via from p) units' left' room'
-      → Filling F m budgets masks units' left' room' × Way (length budgets) m masks units' left' room' queue via from r × (left' ≡ start)
+      → Filling F m budgets masks units' left' room' × WayBack (length budgets) m masks units' left' room' queue via from r × (left' ≡ start)
   back-kept z o e s = (
     rw (s .units-now, s .left-now, s .room-now) (shift-filling f w z (backward units room queue via from p) refl),
     rw (e, s .units-now, s .left-now, s .room-now, shift-left f w z (backward units room queue via from p) refl)
@@ -241,6 +241,6 @@ module _ {F m : ℕ} {budgets masks units left room queue via from : List ℕ} {
 
 -- masks and budgets are as many
 pub way-paired : {F m : ℕ} {budgets masks units left room queue via from : List ℕ} {p : ℕ} → Filling F m budgets masks units left room
-    → Way (length masks) m masks units left room queue via from p → Way (length budgets) m masks units left room queue via from p
+    → WayBack (length masks) m masks units left room queue via from p → WayBack (length budgets) m masks units left room queue via from p
 way-paired {m = m} {masks = masks} {units = units} {left = left} {room = room} {queue = queue} {via = via} {from = from} {p = p} f w =
-    subst (λ (n : ℕ). Way n m masks units left room queue via from p) (f .given .paired) w
+    subst (λ (n : ℕ). WayBack n m masks units left room queue via from p) (f .given .paired) w

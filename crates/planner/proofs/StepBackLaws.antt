@@ -1,26 +1,31 @@
--- A step of the way back as the code takes it: the amount, the units taken, the units placed.
+-- For step_back and place_last of flow.rt: the steps as the code takes them are the steps of the definitions.
 -- Assumes nothing.
 use mathlib.Core.Path.{_≡_, _∙_}
-use mathlib.Core.List.{List}
-use Prim.Native.Nat.{ℕ, _+_, _*_, _≤_, _<_}
+use Prim.Native.Nat.{ℕ, min, _≤_}
+use native.Mathlib.Omega.{arith}
 use Rattle.rules.specs.Plan.{at}
-use Rattle.stretches.specs.Cell.{cell}
-use Rattle.planner.specs.Fill.{raise, lower}
-use Rattle.planner.specs.Back.{ShiftFits, Shifted, Placed}
+use Rattle.planner.specs.Fill.{Stock, PlaceFits, ShareFits, placed, taken, share, shared}
+use Rattle.planner.specs.Search.{Trail}
+use Rattle.planner.specs.Back.{StepFits, backward, freed, moved, task-at, core-at, core-before}
 
-module _ {units left room u l r : List ℕ} {t j k d e : ℕ} (amount : e ≡ d) (units-taken : u ≡ lower units (t * 16 + j) e)
-    (left-taken : l ≡ raise left t e) (room-taken : r ≡ raise room j e) where
-  pub shift-place : ShiftFits units left room t j k d → (t < 64) × (k < 16) × (e ≤ at l t) × (e ≤ at r k) × (cell u t k + e ≤ 1000000)
-  shift-place f = rw (units-taken, left-taken, room-taken, amount) (f .task, f .new, f .left-there, f .room-there, f .units-fit)
+module _ (s : Stock) {s₁ : Stock} (w : Trail) (p : ℕ) {d : ℕ} (amount : d ≡ backward s w p) (freed-now : s₁ ≡ taken s (task-at w p) (core-before w p) d) where
+  pub step-place : StepFits s w p → PlaceFits s₁ (task-at w p) (core-at w p) d
+  step-place f = rw (freed-now, amount) (f .place-fits)
 
-  pub shift-done : {u' l' r' : List ℕ} → u' ≡ raise u (t * 16 + k) e → l' ≡ lower l t e → r' ≡ lower r k e → Shifted units left room t j k d u' l' r'
-  shift-done p q s =
+  pub step-done : {s₂ : Stock} → s₂ ≡ placed s₁ (task-at w p) (core-at w p) d → s₂ ≡ moved s w p
+  step-done e = e ∙ rw (freed-now, amount)
+
+-- what a core has room for, of what a task lacks
+module _ (s : Stock) (t j : ℕ) {d : ℕ} (amount : d ≡ share s t j) where
+  pub share-place : ShareFits s t j → PlaceFits s t j d
+  share-place f =
       record {
-        units-now = p ∙ rw (units-taken, amount);
-        left-now = q ∙ rw (left-taken, amount);
-        room-now = s ∙ rw (room-taken, amount);
+        task = f .task;
+        core = f .core;
+        left-there = omega arith;
+        room-there = omega arith;
+        units-fit = omega (arith, f .units-fit);
       }
 
-pub place-done : {units left room u l r : List ℕ} {t k d e : ℕ} → e ≡ d → u ≡ raise units (t * 16 + k) e → l ≡ lower left t e → r ≡ lower room k e
-    → Placed units left room t k d u l r
-place-done amount p q s = record { units-now = p ∙ rw amount; left-now = q ∙ rw amount; room-now = s ∙ rw amount }
+  pub share-done : {s' : Stock} → s' ≡ placed s t j d → s' ≡ shared s t j
+  share-done e = e ∙ rw amount

@@ -2,14 +2,14 @@
 // tasks with units on it. Each core is queued once, with the task through which it was reached; each task keeps the place in the queue
 // through which it was found.
 ghost use mathlib.Core.Path.{_≡_};
-ghost use mathlib.Core.List.{List};
-ghost use Prim.Native.Nat.{ℕ, _+_, _≤_, _<_};
+ghost use Prim.Native.Nat.{_+_, _≤_, _<_};
 ghost use lib.ListN.{length};
-ghost use Rattle.rules.specs.Sum.{sumTo};
+ghost use Rattle.rules.specs.Sizes.{maxCores, maxTasks};
 ghost use Rattle.rules.specs.Sets.{has};
 ghost use Rattle.rules.specs.Plan.{at};
-ghost use Rattle.planner.specs.Search.{Reached, Swept, Sized, Sight, nothing};
 ghost use Rattle.stretches.specs.Cell.{cell};
+ghost use Rattle.planner.specs.Fill.{stock};
+ghost use Rattle.planner.specs.Search.{Counted, Holds, Gathered, Reached, Met, Swept, Sized, Sight, trail, known, queued, visit, nothing};
 use sets::core_in;
 use sets::task_in;
 use sets::with_core;
@@ -38,10 +38,13 @@ fn reach_one(
     seen: Seen,
     j: usize,
 ) -> Seen
-    requires { ⌜ (cores ≤ 16) × (j < cores) × (seen .tail ≡ sumTo cores (has (seen .cores))) ⌝ }
-    ensures { λ r. ⌜
-        Reached cores t mask (now (queue .entry)) (now (via .entry)) seen (now (queue .exit)) (now (via .exit)) r j (j + 1)
+    requires few { ⌜ cores ≤ maxCores ⌝ }
+    requires core { ⌜ j < cores ⌝ }
+    requires counted { ⌜ Counted cores seen ⌝ }
+    ensures reached { λ r. ⌜
+        Reached cores t mask (queued (now (queue .entry)) (now (via .entry)) seen) (queued (now (queue .exit)) (now (via .exit)) r)
         ⌝ }
+    ensures holds { λ r. ⌜ has mask j ≤ has (r .cores) j ⌝ }
 {
     let tail = seen.tail;
     let found = seen.cores;
@@ -69,10 +72,12 @@ fn reach(
     via: &mut [usize; 16],
     seen: Seen,
 ) -> Seen
-    requires { ⌜ (cores ≤ 16) × (seen .tail ≡ sumTo cores (has (seen .cores))) ⌝ }
-    ensures { λ r. ⌜
-        Reached cores t mask (now (queue .entry)) (now (via .entry)) seen (now (queue .exit)) (now (via .exit)) r 0 cores
+    requires few { ⌜ cores ≤ maxCores ⌝ }
+    requires counted { ⌜ Counted cores seen ⌝ }
+    ensures reached { λ r. ⌜
+        Reached cores t mask (queued (now (queue .entry)) (now (via .entry)) seen) (queued (now (queue .exit)) (now (via .exit)) r)
         ⌝ }
+    ensures holds { λ r. ⌜ Holds cores mask (r .cores) ⌝ }
 {
     let found = seen.cores;
     if (mask | found) == found {
@@ -99,30 +104,15 @@ fn find(
     from: &mut [usize; 64],
     seen: Seen,
 ) -> Seen
-    requires { ⌜ (cores ≤ 16) × (t < 64) × (seen .tail ≡ sumTo cores (has (seen .cores))) ⌝ }
-    ensures { λ r. ⌜
-        ((n : ℕ)
-        (masks : List ℕ)
-        (w : ℕ → ℕ) →
-        at masks t ≡ mask →
-        w t ≡ weight →
-        t < n →
-        Swept
-        n
+    requires few { ⌜ cores ≤ maxCores ⌝ }
+    requires task { ⌜ t < maxTasks ⌝ }
+    requires counted { ⌜ Counted cores seen ⌝ }
+    ensures met { λ r. ⌜
+        Met
         cores
-        masks
-        w
-        p
-        (now (queue .entry))
-        (now (via .entry))
-        (now (from .entry))
-        seen
-        (now (queue .exit))
-        (now (via .exit))
-        (now (from .exit))
-        r
-        t
-        (t + 1))
+        (visit t mask weight p)
+        (known (now (queue .entry)) (now (via .entry)) (now (from .entry)) seen)
+        (known (now (queue .exit)) (now (via .exit)) (now (from .exit)) r)
         ⌝ }
 {
     let tasks = seen.tasks;
@@ -150,25 +140,18 @@ fn begin(
     via: &mut [usize; 16],
     from: &mut [usize; 64],
 ) -> Seen
-    requires { ⌜ (cores ≤ 16) × (length (now masks) ≤ 64) ⌝ }
-    ensures { λ r. ⌜
+    requires few { ⌜ cores ≤ maxCores ⌝ }
+    requires tasks { ⌜ length (now masks) ≤ maxTasks ⌝ }
+    ensures swept { λ r. ⌜
         Swept
-        (length (now (masks .entry)))
         cores
         (now (masks .entry))
         (at (now (left .entry)))
         0
-        (now (queue .entry))
-        (now (via .entry))
-        (now (from .entry))
-        nothing
-        (now (queue .exit))
-        (now (via .exit))
-        (now (from .exit))
-        r
-        0
-        (length (now (masks .entry)))
+        (known (now (queue .entry)) (now (via .entry)) (now (from .entry)) nothing)
+        (known (now (queue .exit)) (now (via .exit)) (now (from .exit)) r)
         ⌝ }
+    ensures gathered { λ r. ⌜ Gathered (length (now (masks .entry))) (at (now (left .entry))) (r .tasks) ⌝ }
 {
     let mut s = Seen {
         tail: 0,
@@ -194,30 +177,22 @@ fn expand(
     from: &mut [usize; 64],
     seen: Seen,
 ) -> Seen
-    requires { ⌜
-        (cores ≤ 16)
-        × (length (now masks) ≤ 64)
-        × (p < 16)
-        × (at (now queue) p < 16)
-        × (seen .tail ≡ sumTo cores (has (seen .cores)))
-        ⌝ }
-    ensures { λ r. ⌜
+    requires few { ⌜ cores ≤ maxCores ⌝ }
+    requires tasks { ⌜ length (now masks) ≤ maxTasks ⌝ }
+    requires place { ⌜ p < maxCores ⌝ }
+    requires core { ⌜ at (now queue) p < maxCores ⌝ }
+    requires counted { ⌜ Counted cores seen ⌝ }
+    ensures swept { λ r. ⌜
         Swept
-        (length (now (masks .entry)))
         cores
         (now (masks .entry))
         (λ t. cell (now (units .entry)) t (at (now (queue .entry)) p))
         p
-        (now (queue .entry))
-        (now (via .entry))
-        (now (from .entry))
-        seen
-        (now (queue .exit))
-        (now (via .exit))
-        (now (from .exit))
-        r
-        0
-        (length (now (masks .entry)))
+        (known (now (queue .entry)) (now (via .entry)) (now (from .entry)) seen)
+        (known (now (queue .exit)) (now (via .exit)) (now (from .exit)) r)
+        ⌝ }
+    ensures gathered { λ r. ⌜
+        Gathered (length (now (masks .entry))) (λ t. cell (now (units .entry)) t (at (now (queue .entry)) p)) (r .tasks)
         ⌝ }
 {
     let core = queue[p];
@@ -251,19 +226,16 @@ pub(crate) fn seek(
     via: &mut [usize; 16],
     from: &mut [usize; 64],
 ) -> Outcome
-    requires { ⌜ (cores ≤ 16) × (length (now masks) ≤ 64) × Sized (now queue) (now via) (now from) ⌝ }
-    ensures { λ r. ⌜
-        Sized (now (queue .exit)) (now (via .exit)) (now (from .exit))
-        × Sight
-        (length (now (masks .entry)))
+    requires few { ⌜ cores ≤ maxCores ⌝ }
+    requires tasks { ⌜ length (now masks) ≤ maxTasks ⌝ }
+    requires sized { ⌜ Sized (trail (now queue) (now via) (now from)) ⌝ }
+    ensures sized { λ _. ⌜ Sized (trail (now (queue .exit)) (now (via .exit)) (now (from .exit))) ⌝ }
+    ensures sight { λ r. ⌜
+        Sight
         cores
         (now (masks .entry))
-        (now (units .entry))
-        (now (left .entry))
-        (now (room .entry))
-        (now (queue .exit))
-        (now (via .exit))
-        (now (from .exit))
+        (stock (now (units .entry)) (now (left .entry)) (now (room .entry)))
+        (trail (now (queue .exit)) (now (via .exit)) (now (from .exit)))
         r
         ⌝ }
 {

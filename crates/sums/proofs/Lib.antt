@@ -1,5 +1,6 @@
 pub mod Inserted
 pub mod Lowest
+pub mod Order
 pub mod Pigeon
 pub mod Sets
 pub mod Sum

@@ -2,16 +2,17 @@
 use mathlib.Core.Path.{_≡_, refl}
 use lib.ListN.{length}
 use native.Mathlib.Omega.{arith}
-use Rattle.planner.specs.Fill.{Filling}
-use Rattle.planner.specs.Search.{WayBack}
-use Rattle.planner.proofs.WayBackLaws.{way-small, back-ready, back-kept, last-ready, last-kept, back-small, way-paired}
+use Rattle.planner.specs.Fill.{Filling, demand, stock}
+use Rattle.planner.specs.Search.{WayBack, trail}
+use Rattle.planner.proofs.WayBackLaws.{way-small, back-less, back-fits, back-kept, last-fits, last-kept}
 use Rattle.planner.proofs.EndedLaws.{ended-whole, ended-short}
 use borrow.Author.Needs.{needs}
 use Rattle.planner.proofs.flow.advance.Statement.{statement}
 use Rattle.planner.proofs.flow.advance.Tie as tie
 
 abbrev Inv-loop : tie.InvT-loop
-Inv-loop frame cores budgets masks units₀ left₀ room₀ queue via from hit p₀ units left room p = Filling frame cores budgets masks units left room × WayBack (length budgets) cores masks units left room queue via from p × (left ≡ left₀)
+Inv-loop frame cores budgets masks units₀ left₀ room₀ queue via from hit p₀ units left room p =
+    Filling (demand frame cores budgets masks) (stock units left room) × WayBack cores masks (stock units left room) (trail queue via from) p × (left ≡ left₀)
 
 abbrev μ-loop : tie.MeasureT-loop
 μ-loop frame cores budgets masks units₀ left₀ room₀ queue via from hit p₀ units left room p = p
@@ -26,13 +27,20 @@ excess-requires : tie.Need-excess-requires Inv-loop μ-loop
 excess-requires c κs = search needs
 
 returns : tie.Need-returns Inv-loop μ-loop
-returns c = (c .before .before .before .before .before .seek .ensures .0, ended-whole (c .before .before .before .before .before .before .before .before .before .before .before .before .before .before .pre .0) (rw (c .before .before .before .found .given .1) at (c .before .before .before .before .before .seek .ensures .1)) (c .before .excess .ensures) (c .if1 .taken))
+returns c =
+    let sought = c .before .before .before .before .before in
+    let start = sought .before .before .before .before .before .before .before .before .before in
+    let stuck = rw (c .before .before .before .found .given .1) at (sought .seek .ensures .1) in
+    (sought .seek .ensures .0, ended-whole (start .pre .0) stuck (c .before .excess .ensures) (c .if1 .taken))
 
 enum-known-found-2 : tie.Need-enum-known-found-2 Inv-loop μ-loop
 enum-known-found-2 c = search needs
 
 loop-holds : tie.Need-loop-holds Inv-loop μ-loop
-loop-holds c = (c .before .before .before .before .before .before .before .before .before .before .before .before .pre .0, way-paired (c .before .before .before .before .before .before .before .before .before .before .before .before .pre .0) (rw (c .before .found2 .given .1) at (c .before .before .before .seek .ensures .1)), refl)
+loop-holds c =
+    let sought = c .before .before .before in
+    let start = sought .before .before .before .before .before .before .before .before .before in
+    (start .pre .0, rw (c .before .found2 .given .1) at (sought .seek .ensures .1), refl)
 
 mul-if2 : tie.Need-mul-if2 Inv-loop μ-loop
 mul-if2 c = omega (arith, way-small (c .loop .inv .0) (c .loop .inv .1))
@@ -47,22 +55,40 @@ element-copy-out-if2-2 : tie.Need-element-copy-out-if2-2 Inv-loop μ-loop
 element-copy-out-if2-2 c = omega (arith, way-small (c .before .loop .inv .0) (c .before .loop .inv .1))
 
 step-back-requires : tie.Need-step-back-requires Inv-loop μ-loop
-step-back-requires c κs = back-ready (c .before .before .before .before .before .before .before .before .before .loop .inv .0) (c .before .before .before .before .before .before .before .before .before .loop .inv .1) (c .before .before .before .before .before .before .if2 .taken)
+step-back-requires c κs =
+    let test = c .before .before .before .before .before .before in
+    let inv = test .before .before .before .loop .inv in
+    back-fits (inv .0) (inv .1) (test .if2 .taken)
 
 loop-less : tie.Need-loop-less Inv-loop μ-loop
-loop-less c = omega (arith, c .step-back .ensures .0, back-small (c .before .before .before .before .before .before .before .before .before .before .loop .inv .0) (c .before .before .before .before .before .before .before .before .before .before .loop .inv .1) (c .before .before .before .before .before .before .before .if2 .taken))
+loop-less c =
+    let test = c .before .before .before .before .before .before .before in
+    let inv = test .before .before .before .loop .inv in
+    omega (arith, c .step-back .ensures .0, back-less (inv .0) (inv .1) (test .if2 .taken))
 
 loop-again : tie.Need-loop-again Inv-loop μ-loop
-loop-again c = back-kept (c .before .before .before .before .before .before .before .before .before .before .loop .inv .0) (c .before .before .before .before .before .before .before .before .before .before .loop .inv .1) (c .before .before .before .before .before .before .before .if2 .taken) (c .before .before .before .before .before .before .before .before .before .before .loop .inv .2) (c .step-back .ensures .0) (c .step-back .ensures .1)
+loop-again c =
+    let test = c .before .before .before .before .before .before .before in
+    let inv = test .before .before .before .loop .inv in
+    back-kept (inv .0) (inv .1) (test .if2 .taken) (inv .2) (c .step-back .ensures .0) (c .step-back .ensures .1)
 
 place-last-requires : tie.Need-place-last-requires Inv-loop μ-loop
-place-last-requires c κs = last-ready (c .before .before .before .before .before .before .before .before .loop .inv .0) (c .before .before .before .before .before .before .before .before .loop .inv .1)
+place-last-requires c κs =
+    let inv = c .before .before .before .before .before .before .before .before .loop .inv in
+    (inv .1 .place, last-fits (inv .0) (inv .1))
 
 returns-2 : tie.Need-returns-2 Inv-loop μ-loop
-returns-2 c = (c .before .before .before .before .before .seek .ensures .0, ended-short (c .before .before .before .before .before .before .before .before .before .before .before .before .before .before .pre .0) (rw (c .before .before .before .found .given .1) at (c .before .before .before .before .before .seek .ensures .1)) (c .before .excess .ensures) (c .if1 .left))
+returns-2 c =
+    let sought = c .before .before .before .before .before in
+    let start = sought .before .before .before .before .before .before .before .before .before in
+    let stuck = rw (c .before .before .before .found .given .1) at (sought .seek .ensures .1) in
+    (sought .seek .ensures .0, ended-short (start .pre .0) stuck (c .before .excess .ensures) (c .if1 .left))
 
 returns-3 : tie.Need-returns-3 Inv-loop μ-loop
-returns-3 c = (c .before .before .before .before .before .before .before .before .before .before .before .before .before .seek .ensures .0, last-kept (c .before .before .before .before .before .before .before .before .before .loop .inv .0) (c .before .before .before .before .before .before .before .before .before .loop .inv .1) (c .before .before .before .before .before .before .if2 .left) (c .before .before .before .before .before .before .before .before .before .loop .inv .2) (c .place-last .ensures))
+returns-3 c =
+    let test = c .before .before .before .before .before .before in
+    let loop = test .before .before .before in
+    (loop .before .before .before .before .seek .ensures .0, last-kept (loop .loop .inv .0) (loop .loop .inv .1) (test .if2 .left) (loop .loop .inv .2) (c .place-last .ensures))
 
 pub advance-spec : {M : Type 1} → statement M
 advance-spec =

@@ -3,8 +3,8 @@ use mathlib.Core.Path.{refl}
 use lib.ListN.{length}
 use Rattle.rules.specs.Sum.{sumTo}
 use Rattle.rules.specs.Plan.{at}
-use Rattle.planner.specs.Fill.{Filling}
-use Rattle.planner.specs.Search.{Sized}
+use Rattle.planner.specs.Fill.{Filling, demand, stock}
+use Rattle.planner.specs.Search.{Sized, trail}
 use Rattle.planner.proofs.FillLaws.{sized-start}
 use borrow.Author.Needs.{needs}
 use Rattle.planner.proofs.flow.fill.Statement.{statement}
@@ -12,7 +12,7 @@ use Rattle.planner.proofs.flow.fill.Tie as tie
 
 abbrev Inv-loop : tie.InvT-loop
 Inv-loop frame cores budgets masks units₀ left₀ room₀ queue₀ via₀ from₀ units left room queue via from =
-    Filling frame cores budgets masks units left room × Sized queue via from
+    Filling (demand frame cores budgets masks) (stock units left room) × Sized (trail queue via from)
 
 abbrev μ-loop : tie.MeasureT-loop
 μ-loop frame cores budgets masks units₀ left₀ room₀ queue₀ via₀ from₀ units left room queue via from =

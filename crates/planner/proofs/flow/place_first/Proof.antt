@@ -2,20 +2,20 @@
 use mathlib.Core.Path.{refl}
 use Prim.Native.Nat.{_-_, _≤_}
 use lib.ListN.{length}
-use Rattle.planner.specs.Fill.{Filling}
+use Rattle.planner.specs.Fill.{Filling, demand, stock}
 use Rattle.planner.proofs.FillLaws.{fill-start, on-fits, on-kept}
 use borrow.Author.Needs.{needs}
 use Rattle.planner.proofs.flow.place_first.Statement.{statement}
 use Rattle.planner.proofs.flow.place_first.Tie as tie
 
 abbrev Inv-loop2 : tie.InvT-loop2
-Inv-loop2 frame cores budgets masks units₀ left₀ room₀ t mask j₀ units left room j = (j ≤ cores) × Filling frame cores budgets masks units left room
+Inv-loop2 frame cores budgets masks units₀ left₀ room₀ t mask j₀ units left room j = (j ≤ cores) × Filling (demand frame cores budgets masks) (stock units left room)
 
 abbrev μ-loop2 : tie.MeasureT-loop2
 μ-loop2 frame cores budgets masks units₀ left₀ room₀ t mask j₀ units left room j = cores - j
 
 abbrev Inv-loop : tie.InvT-loop
-Inv-loop frame cores budgets masks units₀ left₀ room₀ t₀ units left room t = (t ≤ length budgets) × Filling frame cores budgets masks units left room
+Inv-loop frame cores budgets masks units₀ left₀ room₀ t₀ units left room t = (t ≤ length budgets) × Filling (demand frame cores budgets masks) (stock units left room)
 
 abbrev μ-loop : tie.MeasureT-loop
 μ-loop frame cores budgets masks units₀ left₀ room₀ t₀ units left room t = length budgets - t

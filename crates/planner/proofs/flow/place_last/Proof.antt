@@ -1,5 +1,5 @@
 -- The call of place is the last step. Assumes nothing.
-use Rattle.planner.proofs.StepBackLaws.{place-done}
+use Rattle.planner.proofs.StepBackLaws.{share-place, share-done}
 use borrow.Author.Needs.{needs}
 use Rattle.planner.proofs.flow.place_last.Statement.{statement}
 use Rattle.planner.proofs.flow.place_last.Tie as tie
@@ -32,10 +32,10 @@ lesser-requires : tie.Need-lesser-requires
 lesser-requires c κs = search needs
 
 place-requires : tie.Need-place-requires
-place-requires c κs = search needs
+place-requires c κs = search (share-place, needs)
 
 returns : tie.Need-returns
-returns c = place-done (c .before .before .before .before .lesser .ensures) (c .place .ensures .0) (c .place .ensures .1) (c .place .ensures .2)
+returns c = search (share-done, needs)
 
 pub place-last-spec : {M : Type 1} → statement M
 place-last-spec =

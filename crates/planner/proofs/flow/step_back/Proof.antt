@@ -1,6 +1,6 @@
 -- The calls of take and place are one shift. Assumes nothing.
 use mathlib.Core.Path.{refl}
-use Rattle.planner.proofs.StepBackLaws.{shift-place, shift-done}
+use Rattle.planner.proofs.StepBackLaws.{step-place, step-done}
 use borrow.Author.Needs.{needs}
 use Rattle.planner.proofs.flow.step_back.Statement.{statement}
 use Rattle.planner.proofs.flow.step_back.Tie as tie
@@ -54,10 +54,14 @@ take-requires : tie.Need-take-requires
 take-requires c κs = search needs
 
 place-requires : tie.Need-place-requires
-place-requires c κs = shift-place (c .before .before .before .before .before .before .before .lesser .ensures) (c .before .before .before .take .ensures .0) (c .before .before .before .take .ensures .1) (c .before .before .before .take .ensures .2) (c .before .before .before .before .before .before .before .before .before .before .before .before .before .before .pre .1)
+place-requires c κs =
+    let called = c .before .before .before in
+    let amount = called .before .before .before .before in
+    let start = amount .before .before .before .before .before .before .before in
+    step-place _ _ _ (amount .lesser .ensures) (called .take .ensures) (start .pre)
 
 returns : tie.Need-returns
-returns c = (refl, shift-done (c .before .before .before .before .before .before .before .before .lesser .ensures) (c .before .before .before .before .take .ensures .0) (c .before .before .before .before .take .ensures .1) (c .before .before .before .before .take .ensures .2) (c .place .ensures .0) (c .place .ensures .1) (c .place .ensures .2))
+returns c = (refl, search (step-done, needs))
 
 pub step-back-spec : {M : Type 1} → statement M
 step-back-spec =

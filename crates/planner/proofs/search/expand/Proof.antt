@@ -4,14 +4,14 @@ use Prim.Native.Nat.{_-_, _≤_}
 use lib.ListN.{length}
 use Rattle.rules.specs.Plan.{at}
 use Rattle.stretches.specs.Cell.{cell}
-use Rattle.planner.specs.Search.{Swept}
-use Rattle.planner.proofs.SearchLaws.{sweep-start, swept-then, sweep-end}
+use Rattle.planner.specs.Search.{Swept, Gathered, known}
+use Rattle.planner.proofs.SearchLaws.{sweep-start, sweep-more, gather-none, gather-more, gather-all}
 use borrow.Author.Needs.{needs}
 use Rattle.planner.proofs.search.expand.Statement.{statement}
 use Rattle.planner.proofs.search.expand.Tie as tie
 
 abbrev Inv-loop : tie.InvT-loop
-Inv-loop cores masks units p queue₀ via₀ from₀ core s₀ t₀ queue via from s t = (t ≤ length masks) × Swept (length masks) cores masks (λ u. cell units u (at queue₀ p)) p queue₀ via₀ from₀ s₀ queue via from s 0 t
+Inv-loop cores masks units p queue₀ via₀ from₀ core s₀ t₀ queue via from s t = (t ≤ length masks) × Swept cores masks (λ u. cell units u (at queue₀ p)) p (known queue₀ via₀ from₀ s₀) (known queue via from s) × Gathered t (λ u. cell units u (at queue₀ p)) (s .tasks)
 
 abbrev μ-loop : tie.MeasureT-loop
 μ-loop cores masks units p queue₀ via₀ from₀ core s₀ t₀ queue via from s t = length masks - t
@@ -23,7 +23,7 @@ element-copy-out-core : tie.Need-element-copy-out-core Inv-loop μ-loop
 element-copy-out-core c = search needs
 
 loop-holds : tie.Need-loop-holds Inv-loop μ-loop
-loop-holds c = search (sweep-start, needs)
+loop-holds c = search (sweep-start, gather-none, needs)
 
 mul-find : tie.Need-mul-find Inv-loop μ-loop
 mul-find c = search needs
@@ -53,14 +53,13 @@ loop-less : tie.Need-loop-less Inv-loop μ-loop
 loop-less c = search needs
 
 loop-again : tie.Need-loop-again Inv-loop μ-loop
-loop-again c = (
-  search needs,
-  swept-then (c .before .before .before .before .before .before .before .loop .inv .1)
-      (c .find .ensures (length (c .before .before .before .before .before .before .before .before .before .before .args .masks .now)) (c .before .before .before .before .before .before .before .before .before .before .args .masks .now) (λ u. cell (c .before .before .before .before .before .before .before .before .before .before .args .units .now) u (at (c .before .before .before .before .before .before .before .before .before .before .args .queue .now) (c .before .before .before .before .before .before .before .before .before .before .args .p))) refl refl (c .before .before .before .before .before .before .loop-test .taken)),
-)
+loop-again c =
+    let found = c .before .before .before .before .before .before in
+    let inv = found .before .loop .inv in
+    (search needs, sweep-more _ (found .loop-test .taken) (inv .1) (c .find .ensures), gather-more _ (inv .2) (c .find .ensures))
 
 returns : tie.Need-returns Inv-loop μ-loop
-returns c = search (sweep-end, needs)
+returns c = search (gather-all, needs)
 
 pub expand-spec : {M : Type 1} → statement M
 expand-spec =

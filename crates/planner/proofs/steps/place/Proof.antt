@@ -49,7 +49,7 @@ element-write-room c = search needs
 
 returns : tie.Need-returns
 unfolding raise lower
-returns c = (refl, refl, refl)
+returns c = refl
 
 pub place-spec : {M : Type 1} → statement M
 place-spec =

@@ -16,6 +16,8 @@ use Rattle.rules.specs.Plan.{at}
 use Rattle.sums.proofs.Order.{zero-not-one, zero-not-positive, before-last}
 use Rattle.sums.proofs.Sum.{sum-but-one, sum-lt, sum-const, sum-count, sum-zero}
 use Rattle.sums.proofs.Sets.{has-none, has-le-one, has-or, has-lt, with-same, with-other, with-keeps, with-lt}
+use Rattle.sets.specs.Joined.{joined}
+use Rattle.sets.proofs.Members.{joined-in}
 use Rattle.stretches.specs.Cell.{cell}
 use Rattle.planner.specs.Fill.{Stock}
 use Rattle.planner.specs.declared.search.Seen.{Seen}
@@ -211,13 +213,13 @@ none-yet d bit new = omega arith
 pub one-place : (m c j tail b : ℕ) → m ≤ 16 → j < m → tail ≡ sumTo m (has c) → b ≡ has c j → b < 2 → (b ≡ 1 → ⊥) → tail < 16
 one-place m c j tail b h l e d bit new = omega (arith, count-below m c j l (none-yet d bit new))
 
-module _ {m t mask : ℕ} {queue via : List ℕ} {s : Seen} (j : ℕ) (l : j < m) (e : Counted m s) where
-  pub one-new : {a b k : ℕ} → a ≡ has mask j → a < 2 → (a ≡ 0 → ⊥) → b ≡ has (s .cores) j → b < 2 → (b ≡ 1 → ⊥) → k ≡ bitOr (s .cores) (2 ^ j)
+module _ {m t mask : ℕ} {queue via : List ℕ} {s : Seen} (j : ℕ) (few : m ≤ 16) (l : j < m) (e : Counted m s) where
+  pub one-new : {a b k : ℕ} → a ≡ has mask j → a < 2 → (a ≡ 0 → ⊥) → b ≡ has (s .cores) j → b < 2 → (b ≡ 1 → ⊥) → k ≡ joined 16 (s .cores) j
       → Reached m t mask (queued queue via s) (queued (set queue (s .tail) j) (set via (s .tail) t) (record { tail = s .tail + 1; tasks = s .tasks; cores = k }))
-  one-new h i g d bit new c = rw c (reached-one j e l (omega arith) (none-yet d bit new))
+  one-new h i g d bit new c = rw (c ∙ joined-in 16 (s .cores) j (le-trans l few)) (reached-one j e l (omega arith) (none-yet d bit new))
 
-pub one-holds : {k : ℕ} (mask c j : ℕ) → k ≡ bitOr c (2 ^ j) → has mask j ≤ has k j
-one-holds mask c j e = rw e (omega (arith, with-same c j, has-le-one mask j))
+pub one-holds : {k : ℕ} (m mask c j : ℕ) → m ≤ 16 → j < m → k ≡ joined 16 c j → has mask j ≤ has k j
+one-holds m mask c j few l e = rw (e ∙ joined-in 16 c j (le-trans l few)) (omega (arith, with-same c j, has-le-one mask j))
 
 -- as reach goes from core to core
 
@@ -228,13 +230,13 @@ holds-known {mask = mask} {cores = cores} d =
 pub holds-none : {mask cores : ℕ} → Holds 0 mask cores
 holds-none {mask} {cores} = record { each = below-none (λ i. has mask i ≡ 1 → has cores i ≡ 1) }
 
-pub holds-more : {mask : ℕ} {q q' : Queued} {m t j : ℕ} → Holds j mask (q .seen .cores) → Reached m t mask q q'
-    → has mask j ≤ has (q' .seen .cores) j → Holds (j + 1) mask (q' .seen .cores)
-holds-more {mask} {q' = q'} {j = j} h r new =
+pub holds-more : {m t mask j : ℕ} {queue via queue' via' : List ℕ} {s s' : Seen} → Reached m t mask (queued queue via s) (queued queue' via' s')
+    → Holds j mask (s .cores) → has mask j ≤ has (s' .cores) j → Holds (j + 1) mask (s' .cores)
+holds-more {mask = mask} {j = j} {s' = s'} r h new =
     record {
       each =
-          below-more (λ i. has mask i ≡ 1 → has (q' .seen .cores) i ≡ 1) j (λ i l o. r .onward .cores i (h .each i l o))
-          (λ o. omega (arith, has-le-one (q' .seen .cores) j));
+          below-more (λ i. has mask i ≡ 1 → has (s' .cores) i ≡ 1) j (λ i l o. r .onward .cores i (h .each i l o))
+          (λ o. omega (arith, has-le-one (s' .cores) j));
     }
 
 pub holds-all : {mask cores j m : ℕ} → j ≤ m → m ≤ j → Holds j mask cores → Holds m mask cores
@@ -280,10 +282,10 @@ module _ {m t mask weight p : ℕ} {queue via from : List ℕ} {s : Seen} where
             r .found masks a (set from t p) h d (with-same (s .tasks) t) (find-through f t p l z (usable w));
       }
 
-  pub find-new : {b k : ℕ} {queue' via' : List ℕ} {s' : Seen} → (weight ≡ 0 → ⊥) → b ≡ has (s .tasks) t → b < 2 → (b ≡ 1 → ⊥)
-      → k ≡ bitOr (s .tasks) (2 ^ t) → Reached m t mask (queued queue via (record { tail = s .tail; tasks = k; cores = s .cores })) (queued queue' via' s')
+  pub find-new : {b k : ℕ} {queue' via' : List ℕ} {s' : Seen} → t < 64 → (weight ≡ 0 → ⊥) → b ≡ has (s .tasks) t → b < 2 → (b ≡ 1 → ⊥)
+      → k ≡ joined 64 (s .tasks) t → Reached m t mask (queued queue via (record { tail = s .tail; tasks = k; cores = s .cores })) (queued queue' via' s')
       → Holds m mask (s' .cores) → Met m (visit t mask weight p) (known queue via from s) (known queue' via' (set from t p) s')
-  find-new g f bit new c r all = find-one (omega arith) (none-yet f bit new) (rw c at r) all
+  find-new l g f bit new c r all = find-one (omega arith) (none-yet f bit new) (rw (c ∙ joined-in 64 (s .tasks) t l) at r) all
 
 -- ---- all tasks in turn
 
@@ -309,10 +311,10 @@ module _ {m : ℕ} {masks : List ℕ} {weight : ℕ → ℕ} {p : ℕ} where
 pub gather-none : {weight : ℕ → ℕ} {tasks : ℕ} → Gathered 0 weight tasks
 gather-none {weight} {tasks} = record { each = below-none (λ u. 0 < weight u → has tasks u ≡ 1) }
 
-pub gather-more : {m mask p : ℕ} {weight : ℕ → ℕ} {k k' : Known} (t : ℕ) → Gathered t weight (k .seen .tasks)
-    → Met m (visit t mask (weight t) p) k k' → Gathered (t + 1) weight (k' .seen .tasks)
-gather-more {weight = weight} {k' = k'} t g b =
-    record { each = below-more (λ u. 0 < weight u → has (k' .seen .tasks) u ≡ 1) t (λ u l w. b .onward .tasks u (g .each u l w)) (b .gathered) }
+pub gather-more : {m mask p : ℕ} {weight : ℕ → ℕ} {queue via from queue' via' from' : List ℕ} {s s' : Seen} (t : ℕ)
+    → Met m (visit t mask (weight t) p) (known queue via from s) (known queue' via' from' s') → Gathered t weight (s .tasks) → Gathered (t + 1) weight (s' .tasks)
+gather-more {weight = weight} {s' = s'} t b g =
+    record { each = below-more (λ u. 0 < weight u → has (s' .tasks) u ≡ 1) t (λ u l w. b .onward .tasks u (g .each u l w)) (b .gathered) }
 
 pub gather-all : {weight : ℕ → ℕ} {tasks t n : ℕ} → t ≤ n → n ≤ t → Gathered t weight tasks → Gathered n weight tasks
 gather-all l u g = rw (le-antisymm l u) at g

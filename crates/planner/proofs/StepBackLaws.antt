@@ -8,12 +8,13 @@ use Rattle.planner.specs.Fill.{Stock, PlaceFits, ShareFits, placed, take
 use Rattle.planner.specs.Search.{Trail}
 use Rattle.planner.specs.Back.{StepFits, backward, freed, moved, task-at, core-at, core-before}
 
-module _ (s : Stock) {s₁ : Stock} (w : Trail) (p : ℕ) {d : ℕ} (amount : d ≡ backward s w p) (freed-now : s₁ ≡ taken s (task-at w p) (core-before w p) d) where
-  pub step-place : StepFits s w p → PlaceFits s₁ (task-at w p) (core-at w p) d
-  step-place f = rw (freed-now, amount) (f .place-fits)
+pub step-place : {s s₁ : Stock} {w : Trail} {p t k d : ℕ} → StepFits s w p → t ≡ task-at w p → k ≡ core-at w p → d ≡ backward s w p
+    → s₁ ≡ taken s t (core-before w p) d → PlaceFits s₁ t k d
+step-place f t-is k-is amount freed-now = rw (freed-now, t-is, k-is, amount) (f .place-fits)
 
-  pub step-done : {s₂ : Stock} → s₂ ≡ placed s₁ (task-at w p) (core-at w p) d → s₂ ≡ moved s w p
-  step-done e = e ∙ rw (freed-now, amount)
+pub step-done : (s : Stock) {s₁ s₂ : Stock} (w : Trail) (p : ℕ) {d : ℕ} → d ≡ backward s w p → s₁ ≡ taken s (task-at w p) (core-before w p) d
+    → s₂ ≡ placed s₁ (task-at w p) (core-at w p) d → s₂ ≡ moved s w p
+step-done s w p amount freed-now e = e ∙ rw (freed-now, amount)
 
 -- what a core has room for, of what a task lacks
 module _ (s : Stock) (t j : ℕ) {d : ℕ} (amount : d ≡ share s t j) where

@@ -31,16 +31,14 @@ returns c =
     let sought = c .before .before .before .before .before in
     let start = sought .before .before .before .before .before .before .before .before .before in
     let stuck = rw (c .before .before .before .found .given .1) at (sought .seek .ensures .1) in
-    (sought .seek .ensures .0, ended-whole (start .pre .0) stuck (c .before .excess .ensures) (c .if1 .taken))
+    (search needs, ended-whole (start .pre .0) stuck (c .before .excess .ensures) (c .if1 .taken))
 
 enum-known-found-2 : tie.Need-enum-known-found-2 Inv-loop μ-loop
 enum-known-found-2 c = search needs
 
 loop-holds : tie.Need-loop-holds Inv-loop μ-loop
 loop-holds c =
-    let sought = c .before .before .before in
-    let start = sought .before .before .before .before .before .before .before .before .before in
-    (start .pre .0, rw (c .before .found2 .given .1) at (sought .seek .ensures .1), refl)
+    (search needs, rw (c .before .found2 .given .1) at (c .before .before .before .seek .ensures .1), refl)
 
 mul-if2 : tie.Need-mul-if2 Inv-loop μ-loop
 mul-if2 c = omega (arith, way-small (c .loop .inv .0) (c .loop .inv .1))
@@ -55,10 +53,7 @@ element-copy-out-if2-2 : tie.Need-element-copy-out-if2-2 Inv-loop μ-loop
 element-copy-out-if2-2 c = omega (arith, way-small (c .before .loop .inv .0) (c .before .loop .inv .1))
 
 step-back-requires : tie.Need-step-back-requires Inv-loop μ-loop
-step-back-requires c κs =
-    let test = c .before .before .before .before .before .before in
-    let inv = test .before .before .before .loop .inv in
-    back-fits (inv .0) (inv .1) (test .if2 .taken)
+step-back-requires c κs = search (back-fits, needs)
 
 loop-less : tie.Need-loop-less Inv-loop μ-loop
 loop-less c =
@@ -79,16 +74,11 @@ place-last-requires c κs =
 
 returns-2 : tie.Need-returns-2 Inv-loop μ-loop
 returns-2 c =
-    let sought = c .before .before .before .before .before in
-    let start = sought .before .before .before .before .before .before .before .before .before in
-    let stuck = rw (c .before .before .before .found .given .1) at (sought .seek .ensures .1) in
-    (sought .seek .ensures .0, ended-short (start .pre .0) stuck (c .before .excess .ensures) (c .if1 .left))
+    let stuck = rw (c .before .before .before .found .given .1) at (c .before .before .before .before .before .seek .ensures .1) in
+    (search needs, search (ended-short, stuck, needs))
 
 returns-3 : tie.Need-returns-3 Inv-loop μ-loop
-returns-3 c =
-    let test = c .before .before .before .before .before .before in
-    let loop = test .before .before .before in
-    (loop .before .before .before .before .seek .ensures .0, last-kept (loop .loop .inv .0) (loop .loop .inv .1) (test .if2 .left) (loop .loop .inv .2) (c .place-last .ensures))
+returns-3 c = (search needs, search (last-kept, needs))
 
 pub advance-spec : {M : Type 1} → statement M
 advance-spec =

@@ -54,11 +54,7 @@ take-requires : tie.Need-take-requires
 take-requires c κs = search needs
 
 place-requires : tie.Need-place-requires
-place-requires c κs =
-    let called = c .before .before .before in
-    let amount = called .before .before .before .before in
-    let start = amount .before .before .before .before .before .before .before in
-    step-place _ _ _ (amount .lesser .ensures) (called .take .ensures) (start .pre)
+place-requires c κs = search (step-place, needs)
 
 returns : tie.Need-returns
 returns c = (refl, search (step-done, needs))

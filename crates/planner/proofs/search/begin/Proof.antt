@@ -40,10 +40,7 @@ loop-less : tie.Need-loop-less Inv-loop μ-loop
 loop-less c = search needs
 
 loop-again : tie.Need-loop-again Inv-loop μ-loop
-loop-again c =
-    let found = c .before .before .before .before .before .before in
-    let inv = found .before .loop .inv in
-    (search needs, sweep-more _ (found .loop-test .taken) (inv .1) (c .find .ensures), gather-more _ (inv .2) (c .find .ensures))
+loop-again c = (search needs, search (sweep-more, needs), search (gather-more, needs))
 
 returns : tie.Need-returns Inv-loop μ-loop
 returns c = search (gather-all, needs)

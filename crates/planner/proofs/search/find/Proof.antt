@@ -28,11 +28,7 @@ reach-requires : tie.Need-reach-requires
 reach-requires c κs = search needs
 
 returns-3 : tie.Need-returns-3
-returns-3 c =
-    let old = c .before .before .before .before .before in
-    let start = old .before .before in
-    find-new (old .before .if1 .left) (old .task-in .ensures .0) (old .task-in .ensures .1) (c .before .before .before .before .if2 .left)
-    (c .before .before .before .with-task .ensures ∙ joined-in 64 _ _ (start .pre .1 .0)) (c .reach .ensures .0) (c .reach .ensures .1)
+returns-3 c = search (find-new, needs)
 
 pub find-spec : {M : Type 1} → statement M
 find-spec =

@@ -28,9 +28,7 @@ loop-less : tie.Need-loop-less Inv-loop μ-loop
 loop-less c = search needs
 
 loop-again : tie.Need-loop-again Inv-loop μ-loop
-loop-again c =
-    let before = c .before .before .before .before .loop .inv in
-    (search needs, reached-then (before .1) (c .reach-one .ensures .0), holds-more (before .2) (c .reach-one .ensures .0) (c .reach-one .ensures .1))
+loop-again c = (search needs, search (reached-then, needs), search (holds-more, needs))
 
 returns-2 : tie.Need-returns-2 Inv-loop μ-loop
 returns-2 c = search (holds-all, needs)

@@ -46,12 +46,11 @@ with-core-requires c κs = search needs
 returns-3 : tie.Need-returns-3
 returns-3 c =
     let start = c .before .before .before .before .before in
-    let bit = c .before .before .before .before in
-    let old = c .before .before in
-    let joined = c .with-core .ensures ∙ joined-in 16 _ _ (le-trans (start .pre .1 .0) (start .pre .0)) in (
-      one-new _ (start .pre .1 .0) (start .pre .1 .1) (bit .core-in .ensures .0) (bit .core-in .ensures .1) (c .before .before .before .if1 .left)
-          (old .core-in2 .ensures .0) (old .core-in2 .ensures .1) (c .before .if2 .left) joined,
-      one-holds (start .args .mask) (start .args .seen .cores) (start .args .j) joined,
+    let bit = c .before .before .before .before .core-in .ensures in
+    let old = c .before .before .core-in2 .ensures in (
+      one-new _ (start .pre .0) (start .pre .1 .0) (start .pre .1 .1) (bit .0) (bit .1) (c .before .before .before .if1 .left) (old .0) (old .1)
+          (c .before .if2 .left) (c .with-core .ensures),
+      search (one-holds, needs),
     )
 
 pub reach-one-spec : {M : Type 1} → statement M

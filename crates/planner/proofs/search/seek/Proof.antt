@@ -34,22 +34,16 @@ element-copy-out-if2 : tie.Need-element-copy-out-if2 Inv-loop μ-loop
 element-copy-out-if2 c = omega (arith, place-small (c .before .before .before .loop .inv) (c .before .if1 .taken))
 
 returns : tie.Need-returns Inv-loop μ-loop
-returns c =
-    let test = c .before .before .before in
-    let inv = test .before .before .loop .inv in
-    (inv .found .sized, sought-room inv (test .if1 .taken) (c .if2 .taken))
+returns c = (search needs, search (sought-room, needs))
 
 expand-requires : tie.Need-expand-requires Inv-loop μ-loop
 expand-requires c κs =
     let test = c .before .before .before .before .before .before in
-    let inv = test .before .before .loop .inv in
-    let small = place-small inv (test .if1 .taken) in
-    (inv .found .cores-few, (inv .found .tasks-few, (small .0, (small .1, inv .found .counted))))
+    let small = place-small (test .before .before .loop .inv) (test .if1 .taken) in
+    (search needs, (search needs, (small .0, (small .1, search needs))))
 
 add-head : tie.Need-add-head Inv-loop μ-loop
-add-head c =
-    let test = c .before .before .before .before .before .before .before in
-    omega (arith, place-small (test .before .before .loop .inv) (test .if1 .taken))
+add-head c = search (place-small, needs)
 
 loop-less : tie.Need-loop-less Inv-loop μ-loop
 loop-less c =
@@ -57,12 +51,10 @@ loop-less c =
     omega (arith, place-small (test .before .before .loop .inv) (test .if1 .taken))
 
 loop-again : tie.Need-loop-again Inv-loop μ-loop
-loop-again c =
-    let test = c .before .before .before .before .before .before .before in
-    sought-more (test .before .before .loop .inv) (test .if1 .taken) (c .before .before .before .before .if2 .left) (c .expand .ensures .0) (c .expand .ensures .1)
+loop-again c = search (sought-more, needs)
 
 returns-2 : tie.Need-returns-2 Inv-loop μ-loop
-returns-2 c = let inv = c .before .before .loop .inv in (inv .found .sized, sought-end inv (c .if1 .left))
+returns-2 c = (search needs, sought-end (c .before .before .loop .inv) (c .if1 .left))
 
 pub seek-spec : {M : Type 1} → statement M
 seek-spec =

@@ -41,10 +41,10 @@ loop-holds c =
     (search needs, rw (c .before .found2 .given .1) at (c .before .before .before .seek .ensures .1), refl)
 
 mul-if2 : tie.Need-mul-if2 Inv-loop μ-loop
-mul-if2 c = omega (arith, way-small (c .loop .inv .0) (c .loop .inv .1))
+mul-if2 c = search (way-small, needs)
 
 element-copy-out-if2 : tie.Need-element-copy-out-if2 Inv-loop μ-loop
-element-copy-out-if2 c = omega (arith, way-small (c .loop .inv .0) (c .loop .inv .1))
+element-copy-out-if2 c = search (way-small, needs)
 
 mul-if2-2 : tie.Need-mul-if2-2 Inv-loop μ-loop
 mul-if2-2 c = omega (arith, way-small (c .before .loop .inv .0) (c .before .loop .inv .1))

@@ -19,10 +19,10 @@ abbrev μ-loop : tie.MeasureT-loop
     sumTo (length budgets) (at left)
 
 place-first-requires : tie.Need-place-first-requires Inv-loop μ-loop
-place-first-requires c κs = (c .before .before .before .before .before .pre, refl)
+place-first-requires c κs = search needs
 
 loop-holds : tie.Need-loop-holds Inv-loop μ-loop
-loop-holds c = (c .place-first .ensures, sized-start)
+loop-holds c = search (sized-start, needs)
 
 advance-requires : tie.Need-advance-requires Inv-loop μ-loop
 advance-requires c κs = search needs

@@ -24,7 +24,7 @@ copy-budgets-requires : tie.Need-copy-budgets-requires Inv-loop2 μ-loop2 Inv-lo
 copy-budgets-requires c κs = search needs
 
 loop-holds : tie.Need-loop-holds Inv-loop2 μ-loop2 Inv-loop μ-loop
-loop-holds c = (search needs, fill-start (c .before .before .before .before .before .pre .0) (c .before .copy-budgets .ensures))
+loop-holds c = (search needs, search (fill-start, needs))
 
 mul-mask : tie.Need-mul-mask Inv-loop2 μ-loop2 Inv-loop μ-loop
 mul-mask c = search needs
@@ -36,7 +36,7 @@ loop2-holds : tie.Need-loop2-holds Inv-loop2 μ-loop2 Inv-loop μ-loop
 loop2-holds c = search needs
 
 place-on-requires : tie.Need-place-on-requires Inv-loop2 μ-loop2 Inv-loop μ-loop
-place-on-requires c κs = on-fits (c .before .before .before .before .loop2 .inv .1) (c .before .before .before .before .before .before .loop-test .taken) (c .before .before .before .loop2-test .taken)
+place-on-requires c κs = search (on-fits, needs)
 
 add-j : tie.Need-add-j Inv-loop2 μ-loop2 Inv-loop μ-loop
 add-j c = search needs
@@ -45,7 +45,9 @@ loop2-less : tie.Need-loop2-less Inv-loop2 μ-loop2 Inv-loop μ-loop
 loop2-less c = search needs
 
 loop2-again : tie.Need-loop2-again Inv-loop2 μ-loop2 Inv-loop μ-loop
-loop2-again c = (search needs, on-kept (c .before .before .before .before .before .loop2 .inv .1) (c .before .before .before .before .before .before .before .loop-test .taken) (c .before .before .before .before .loop2-test .taken) refl (c .place-on .ensures))
+loop2-again c =
+    let test = c .before .before .before .before in
+    (search needs, on-kept (test .before .loop2 .inv .1) (test .before .before .before .loop-test .taken) (test .loop2-test .taken) refl (c .place-on .ensures))
 
 add-t : tie.Need-add-t Inv-loop2 μ-loop2 Inv-loop μ-loop
 add-t c = search needs

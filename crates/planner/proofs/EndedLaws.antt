@@ -4,17 +4,21 @@
 use mathlib.Core.Path.{_≡_, sym, _∙_, ap, subst}
 use mathlib.Core.List.{List}
 use Prim.Native.Nat.{ℕ, _+_, _-_, _*_, _^_, _≤_, _<_}
+use native.Mathlib.Nat.{le-trans}
+use native.Mathlib.Decide.{decLt}
 use native.Mathlib.Omega.{arith}
 use lib.ListN.{length, List·getD-eq-default}
 use Rattle.rules.specs.Sum.{sumTo}
 use Rattle.rules.specs.Sets.{has}
 use Rattle.rules.specs.Plan.{at}
 use Rattle.rules.specs.Excess.{groupBudget, capacity}
+use Rattle.sums.proofs.Order.{above-or-at}
 use Rattle.sums.proofs.Sum.{sum-split, sum-zero}
 use Rattle.sums.proofs.Sets.{has-above, has-none}
 use Rattle.stretches.specs.Cell.{cell}
 use Rattle.overload.specs.Flow.{Partial, Stuck}
-use Rattle.planner.specs.Fill.{Filling, Stock, demand}
+use Rattle.planner.specs.Fill.{Filling, demand}
+use Rattle.planner.specs.Stock.{Stock}
 use Rattle.planner.specs.Filled.{WholeBy, ShortBy}
 use Rattle.overload.proofs.Verdict.{part-out, found-cores, found-excess, found-exceeds, found-smallest, found-budgets, nothing-lacks}
 
@@ -36,10 +40,7 @@ capacity-all m c limit h l =
 
 module _ {F m : ℕ} {budgets masks : List ℕ} {s : Stock} (f : Filling (demand F m budgets masks) s) where
   pub partial-of : Partial (length budgets) m (λ j. F) (at budgets) (at masks) (cell (s .units)) (at (s .left)) (at (s .room))
-  partial-of = record { inside = λ i l j k z. f .inside i j (small k) z; row = f .row; column = f .column }
-    where
-      small : {j : ℕ} → j < m → j < 16
-      small k = omega (arith, f .given .cores)
+  partial-of = record { inside = λ i l j k z. f .inside i j (le-trans k (f .given .cores)) z; row = f .row; column = f .column }
 
   module _ {g c : ℕ} (k : Stuck (length masks) m (at masks) (cell (s .units)) (at (s .left)) (at (s .room)) g c) where
     stuck : Stuck (length budgets) m (at masks) (cell (s .units)) (at (s .left)) (at (s .room)) g c
@@ -64,13 +65,10 @@ module _ {F m : ℕ} {budgets masks : List ℕ} {s : Stock} (f : Filling (demand
 
         outside : (i j : ℕ) → m ≤ j → has (at masks i) j ≡ 0
         outside i j l =
-            elim (native.Mathlib.Decide.decLt i (length budgets)) [
+            elim (decLt i (length budgets)) [
               | yes k ↦ has-above m (f .given .narrow i k) l
-              | no k ↦ ap (λ (v : ℕ). has v j) (List·getD-eq-default masks 0 (past (turn k))) ∙ has-none j
+              | no k ↦ ap (λ (v : ℕ). has v j) (List·getD-eq-default masks 0 (past (above-or-at k))) ∙ has-none j
             ]
-          where
-            turn : {a b : ℕ} → (a < b → ⊥) → b ≤ a
-            turn k = omega arith
 
     pub ended-short : {e : ℕ} → e ≡ groupBudget (length budgets) (at budgets) g - capacity 16 (λ j. F) c → (e ≡ 0 → ⊥) → ShortBy F m budgets masks g c
     ended-short d ne =

@@ -2,8 +2,8 @@
 -- Assumes nothing.
 use mathlib.Core.Path.{_≡_, refl, sym, _∙_, ap, subst}
 use mathlib.Core.List.{List}
-use Prim.Native.Nat.{ℕ, zero, suc, min, _+_, _*_, _≤_, _<_}
-use native.Mathlib.Nat.{not-suc-le-zero, le-antisymm, min-le-left, min-le-right}
+use Prim.Native.Nat.{ℕ, zero, suc, _+_, _*_, _≤_, _<_}
+use native.Mathlib.Nat.{not-suc-le-zero, le-antisymm, le-trans, min-le-left, min-le-right}
 use native.Mathlib.Decide.{ℕ-discrete}
 use native.Mathlib.Omega.{arith}
 use lib.ListN.{length, set, replicate, length-set, length-replicate, getD-replicate}
@@ -13,8 +13,8 @@ use Rattle.rules.specs.Plan.{at}
 use Rattle.sums.proofs.Order.{zero-not-one, before-last}
 use Rattle.sums.proofs.Sum.{sum-zero}
 use Rattle.sums.proofs.Sets.{has-zero}
-use Rattle.stretches.specs.Cell.{cell}
-use Rattle.planner.specs.Fill.{Filling, FillReady, Copied, ShareFits, PlacedOn, Stock, demand, stock, placed, share, shared}
+use Rattle.planner.specs.Fill.{Filling, FillReady, Copied, demand}
+use Rattle.planner.specs.Stock.{ShareFits, PlacedOn, Stock, stock, placed, share}
 use Rattle.planner.specs.Search.{Sized, trail}
 use Rattle.planner.proofs.StepBackLaws.{share-done}
 use Rattle.planner.proofs.StepLaws.{placed-kept, sharing}
@@ -52,14 +52,11 @@ fill-start {F} {m} {budgets} {units = units} r c =
       room-long = length-replicate 16 F;
       inside = λ i j l z. r .empty (i * 16 + j);
       row = λ i l. none (sum-zero m (λ j k. r .empty (i * 16 + j))) (c .same i l);
-      column = λ j k. none (sum-zero (length budgets) (λ i l. r .empty (i * 16 + j))) (getD-replicate 16 j F 0 (small k));
+      column = λ j k. none (sum-zero (length budgets) (λ i l. r .empty (i * 16 + j))) (getD-replicate 16 j F 0 (le-trans k (r .given .cores)));
     }
   where
     none : {a b v : ℕ} → a ≡ 0 → b ≡ v → a + b ≡ v
     none e f = omega arith
-
-    small : {j : ℕ} → j < m → j < 16
-    small k = omega (arith, r .given .cores)
 
 pub sized-start : Sized (trail (replicate 16 0) (replicate 16 0) (replicate 64 0))
 sized-start = record { queue-long = refl; via-long = refl; from-long = refl }

@@ -19,7 +19,7 @@ use Rattle.sums.proofs.Sets.{has-none, has-le-one, has-or, has-lt, with-same, w
 use Rattle.sets.specs.Joined.{joined}
 use Rattle.sets.proofs.Members.{joined-in}
 use Rattle.stretches.specs.Cell.{cell}
-use Rattle.planner.specs.Fill.{Stock}
+use Rattle.planner.specs.Stock.{Stock}
 use Rattle.planner.specs.declared.search.Seen.{Seen}
 use Rattle.planner.specs.Search.{Known, Queued, Visit, Counted, Holds, Gathered, Found, Onward, Reached, Met, Swept, known, queued, visit}
 

@@ -15,7 +15,7 @@ use Rattle.sums.proofs.Order.{zero-not-one, zero-not-positive, none-above, befo
 use Rattle.sums.proofs.Sets.{has-none, has-below}
 use Rattle.stretches.specs.Cell.{cell}
 use Rattle.overload.specs.Flow.{Closed, Stuck}
-use Rattle.planner.specs.Fill.{Stock}
+use Rattle.planner.specs.Stock.{Stock}
 use Rattle.planner.specs.declared.search.Seen.{Seen}
 use Rattle.planner.specs.Search.{Known, Found, Gathered, Swept, Sized, Sought, WayBack, trail, known, nothing}
 use Rattle.planner.proofs.SearchLaws.{short, counted-nothing}

@@ -1,12 +1,11 @@
 -- For step_back and place_last of flow.rt: the steps as the code takes them are the steps of the definitions.
 -- Assumes nothing.
 use mathlib.Core.Path.{_≡_, _∙_}
-use Prim.Native.Nat.{ℕ, min, _≤_}
+use Prim.Native.Nat.{ℕ}
 use native.Mathlib.Omega.{arith}
-use Rattle.rules.specs.Plan.{at}
-use Rattle.planner.specs.Fill.{Stock, PlaceFits, ShareFits, placed, taken, share, shared}
+use Rattle.planner.specs.Stock.{Stock, PlaceFits, ShareFits, placed, taken, share, shared}
 use Rattle.planner.specs.Search.{Trail}
-use Rattle.planner.specs.Back.{StepFits, backward, freed, moved, task-at, core-at, core-before}
+use Rattle.planner.specs.Back.{StepFits, backward, moved, task-at, core-at, core-before}
 
 pub step-place : {s s₁ : Stock} {w : Trail} {p t k d : ℕ} → StepFits s w p → t ≡ task-at w p → k ≡ core-at w p → d ≡ backward s w p
     → s₁ ≡ taken s t (core-before w p) d → PlaceFits s₁ t k d

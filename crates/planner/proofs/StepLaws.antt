@@ -3,6 +3,7 @@
 use mathlib.Core.Path.{_≡_, sym, _∙_, ap, ap₂}
 use mathlib.Core.List.{List}
 use Prim.Native.Nat.{ℕ, _+_, _-_, _*_, _≤_, _<_}
+use native.Mathlib.Nat.{le-trans}
 use native.Mathlib.Decide.{ℕ-discrete}
 use native.Mathlib.Omega.{arith}
 use lib.ListN.{length, getD, set, length-set}
@@ -12,7 +13,8 @@ use Rattle.rules.specs.Sets.{has}
 use Rattle.rules.specs.Plan.{at}
 use Rattle.sums.proofs.Sum.{sum-but-one, sum-cong, sum-term}
 use Rattle.stretches.specs.Cell.{cell}
-use Rattle.planner.specs.Fill.{Filling, Stock, PlaceFits, TakeFits, ShareFits, demand, stock, placed, taken, raise, lower}
+use Rattle.planner.specs.Fill.{Filling, demand}
+use Rattle.planner.specs.Stock.{Stock, PlaceFits, TakeFits, ShareFits, stock, placed, taken, raise, lower}
 
 pub raise-same : (l : List ℕ) (k d : ℕ) → k < length l → at (raise l k d) k ≡ at l k + d
 unfolding raise
@@ -83,17 +85,11 @@ module _ {F m : ℕ} {budgets masks : List ℕ} {s : Stock} (f : Filling (demand
   -- what is held of one task or on one core, after a change of one cell
   row-change : (other : List ℕ) → Elsewhere other → sumTo m (cell other i) + cell (s .units) i j ≡ sumTo m (cell (s .units) i) + cell other i j
   unfolding Elsewhere
-  row-change other e = sum-but-one m j (cell other i) (cell (s .units) i) j-in (λ b l ne. e i b (small l) (λ p. ne (p .1)))
-    where
-      small : {b : ℕ} → b < m → b < 16
-      small l = omega (arith, f .given .cores)
+  row-change other e = sum-but-one m j (cell other i) (cell (s .units) i) j-in (λ b l ne. e i b (le-trans l (f .given .cores)) (λ p. ne (p .1)))
 
   row-same : (other : List ℕ) → Elsewhere other → (a : ℕ) → (a ≡ i → ⊥) → sumTo m (cell other a) ≡ sumTo m (cell (s .units) a)
   unfolding Elsewhere
-  row-same other e a ne = sum-cong m (λ b l. e a b (small l) (λ p. ne (p .0)))
-    where
-      small : {b : ℕ} → b < m → b < 16
-      small l = omega (arith, f .given .cores)
+  row-same other e a ne = sum-cong m (λ b l. e a b (le-trans l (f .given .cores)) (λ p. ne (p .0)))
 
   column-change : (other : List ℕ) → Elsewhere other
       → sumTo (length budgets) (λ a. cell other a j) + cell (s .units) i j ≡ sumTo (length budgets) (λ a. cell (s .units) a j) + cell other i j
@@ -130,15 +126,12 @@ module _ {F m : ℕ} {budgets masks : List ℕ} {s : Stock} (f : Filling (demand
           column = λ b l.
               elim (ℕ-discrete b j) [
                 | yes e ↦ rw e (even _ _ _ _ _ _ column-even (column-change other elsewhere) (f .column j j-in))
-                | no ne ↦ ap₂ _+_ (column-same other elsewhere b (small l) ne) (room-other b ne) ∙ f .column b l
+                | no ne ↦ ap₂ _+_ (column-same other elsewhere b (le-trans l (f .given .cores)) ne) (room-other b ne) ∙ f .column b l
               ];
         }
       where
         excluded : has (at masks i) j ≡ 0 → ⊥
         excluded z = omega arith
-
-        small : {b : ℕ} → b < m → b < 16
-        small l = omega (arith, f .given .cores)
 
         even : (u v r s p q : ℕ) {t : ℕ} → u + r ≡ v + s → p + v ≡ q + u → q + s ≡ t → p + r ≡ t
         even u v r s p q e g h = omega arith

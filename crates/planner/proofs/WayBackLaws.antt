@@ -1,7 +1,7 @@
 -- For advance of flow.rt: each step of the way back takes units from an earlier core and places them on the one with room, and the last
 -- places units of a task that lacks some; all keep a partial allocation.
 -- Assumes nothing.
-use mathlib.Core.Path.{_≡_, refl, sym, _∙_, ap, subst}
+use mathlib.Core.Path.{_≡_, sym, _∙_, ap, subst}
 use mathlib.Core.List.{List}
 use Prim.Native.Nat.{ℕ, _+_, _*_, _≤_, _<_}
 use native.Mathlib.Nat.{le-refl, le-trans, le-of-lt, min-le-left, min-le-right}
@@ -14,7 +14,8 @@ use Rattle.sums.proofs.Order.{zero-not-positive}
 use Rattle.sums.proofs.Sum.{sum-but-one}
 use Rattle.sums.proofs.Sets.{has-one}
 use Rattle.stretches.specs.Cell.{cell}
-use Rattle.planner.specs.Fill.{Filling, ShareFits, Stock, demand, stock, share, shared, lack}
+use Rattle.planner.specs.Fill.{Filling, demand, lack}
+use Rattle.planner.specs.Stock.{ShareFits, Stock, stock, share, shared}
 use Rattle.planner.specs.Search.{Trail, WayBack}
 use Rattle.planner.specs.Back.{StepFits, task-at, core-at, place-before, core-before, backward, freed, moved}
 use Rattle.planner.specs.Filled.{MoreBy}

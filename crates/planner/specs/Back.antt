@@ -5,7 +5,7 @@ use Prim.Native.Nat.{ℕ, min, _<_}
 use Rattle.rules.specs.Sizes.{maxCores}
 use Rattle.rules.specs.Plan.{at}
 use Rattle.stretches.specs.Cell.{cell}
-use Rattle.planner.specs.Fill.{Stock, PlaceFits, TakeFits, placed, taken}
+use Rattle.planner.specs.Stock.{Stock, PlaceFits, TakeFits, placed, taken}
 use Rattle.planner.specs.Search.{Trail}
 
 -- at the place p of the queue: the core, the task that reached it, and the earlier place through which that task was found

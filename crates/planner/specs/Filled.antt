@@ -9,7 +9,8 @@ use Rattle.rules.specs.Plan.{at}
 use Rattle.rules.specs.Allocation.{Allocation}
 use Rattle.rules.specs.Excess.{Exceeds, Smallest}
 use Rattle.stretches.specs.Cell.{cell}
-use Rattle.planner.specs.Fill.{Demand, Stock, Filling, lack}
+use Rattle.planner.specs.Fill.{Demand, Filling, lack}
+use Rattle.planner.specs.Stock.{Stock}
 use Rattle.planner.specs.declared.flow.Filled.{Filled}
 use Rattle.planner.specs.declared.flow.Filled.the-variants.{Whole, Short}
 use Rattle.planner.specs.declared.flow.Pass.{Pass}

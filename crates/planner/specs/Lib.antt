@@ -7,3 +7,4 @@ pub mod Plan
 pub mod Search
 pub mod Seeking
 pub mod Shifts
+pub mod Stock

@@ -10,7 +10,7 @@ use Rattle.rules.specs.Sets.{has}
 use Rattle.rules.specs.Plan.{at}
 use Rattle.stretches.specs.Cell.{cell}
 use Rattle.overload.specs.Flow.{Stuck}
-use Rattle.planner.specs.Fill.{Stock}
+use Rattle.planner.specs.Stock.{Stock}
 use Rattle.planner.specs.declared.search.Seen.{Seen}
 use Rattle.planner.specs.declared.search.Outcome.{Outcome}
 use Rattle.planner.specs.declared.search.Outcome.the-variants.{Room, Closed}

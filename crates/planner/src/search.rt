@@ -1,14 +1,13 @@
 // The search for a core with room: breadth first from the tasks that lack units. A task reaches the cores of its mask, a full core the
 // tasks with units on it. Each core is queued once, with the task through which it was reached; each task keeps the place in the queue
 // through which it was found.
-ghost use mathlib.Core.Path.{_≡_};
 ghost use Prim.Native.Nat.{_+_, _≤_, _<_};
 ghost use lib.ListN.{length};
 ghost use Rattle.rules.specs.Sizes.{maxCores, maxTasks};
 ghost use Rattle.rules.specs.Sets.{has};
 ghost use Rattle.rules.specs.Plan.{at};
 ghost use Rattle.stretches.specs.Cell.{cell};
-ghost use Rattle.planner.specs.Fill.{stock};
+ghost use Rattle.planner.specs.Stock.{stock};
 ghost use Rattle.planner.specs.Search.{Counted, Holds, Gathered, Reached, Met, Swept, Sized, Sight, trail, known, queued, visit, nothing};
 use sets::core_in;
 use sets::task_in;

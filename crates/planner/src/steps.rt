@@ -1,7 +1,7 @@
 // The elementary steps: units are placed on a core, or taken from it, and what lacks and what room is left are kept beside them.
 ghost use mathlib.Core.Path.{_≡_};
 ghost use Prim.Native.Nat.{min};
-ghost use Rattle.planner.specs.Fill.{PlaceFits, TakeFits, stock, placed, taken};
+ghost use Rattle.planner.specs.Stock.{PlaceFits, TakeFits, stock, placed, taken};
 
 pub(crate) fn lesser(a: u32, b: u32) -> u32
     ensures { λ r. ⌜ r ≡ min a b ⌝ }

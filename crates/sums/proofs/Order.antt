@@ -13,10 +13,9 @@ zero-not-positive e l = omega arith
 pub none-above : {a : ℕ} → (0 < a → ⊥) → a ≡ 0
 none-above z = omega arith
 
--- the one number from t up to t + 1
-pub only-at : (t u : ℕ) → t ≤ u → u < t + 1 → u ≡ t
-only-at t u l k = omega arith
-
 -- a number up to n + 1 that is not n
 pub before-last : {k n : ℕ} → k < n + 1 → (k ≡ n → ⊥) → k < n
 before-last l ne = omega arith
+
+pub above-or-at : {a b : ℕ} → (a < b → ⊥) → b ≤ a
+above-or-at n = omega arith

@@ -1,8 +1,8 @@
 -- The way back keeps a partial allocation; where no core has room, the excess decides. Assumes nothing.
 use mathlib.Core.Path.{_≡_, refl}
-use lib.ListN.{length}
 use native.Mathlib.Omega.{arith}
-use Rattle.planner.specs.Fill.{Filling, demand, stock}
+use Rattle.planner.specs.Fill.{Filling, demand}
+use Rattle.planner.specs.Stock.{stock}
 use Rattle.planner.specs.Search.{WayBack, trail}
 use Rattle.planner.proofs.WayBackLaws.{way-small, back-less, back-fits, back-kept, last-fits, last-kept}
 use Rattle.planner.proofs.EndedLaws.{ended-whole, ended-short}

@@ -1,9 +1,9 @@
 -- Each search that does not end leaves less lacking. Assumes nothing.
-use mathlib.Core.Path.{refl}
 use lib.ListN.{length}
 use Rattle.rules.specs.Sum.{sumTo}
 use Rattle.rules.specs.Plan.{at}
-use Rattle.planner.specs.Fill.{Filling, demand, stock}
+use Rattle.planner.specs.Fill.{Filling, demand}
+use Rattle.planner.specs.Stock.{stock}
 use Rattle.planner.specs.Search.{Sized, trail}
 use Rattle.planner.proofs.FillLaws.{sized-start}
 use borrow.Author.Needs.{needs}

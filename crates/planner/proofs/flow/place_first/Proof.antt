@@ -2,7 +2,8 @@
 use mathlib.Core.Path.{refl}
 use Prim.Native.Nat.{_-_, _≤_}
 use lib.ListN.{length}
-use Rattle.planner.specs.Fill.{Filling, demand, stock}
+use Rattle.planner.specs.Fill.{Filling, demand}
+use Rattle.planner.specs.Stock.{stock}
 use Rattle.planner.proofs.FillLaws.{fill-start, on-fits, on-kept}
 use borrow.Author.Needs.{needs}
 use Rattle.planner.proofs.flow.place_first.Statement.{statement}

@@ -1,5 +1,4 @@
 -- The loop finds one task after the other. Assumes nothing.
-use mathlib.Core.Path.{refl}
 use Prim.Native.Nat.{_-_, _≤_}
 use lib.ListN.{length}
 use Rattle.rules.specs.Plan.{at}

@@ -1,6 +1,4 @@
 -- Each way out is a law of the step: weighs nothing, found already, found now. Assumes nothing.
-use mathlib.Core.Path.{_∙_}
-use Rattle.sets.proofs.Members.{joined-in}
 use Rattle.planner.proofs.SearchLaws.{find-nothing, find-known, find-new}
 use borrow.Author.Needs.{needs}
 use Rattle.planner.proofs.search.find.Statement.{statement}

@@ -1,9 +1,6 @@
 -- Each way out is a law of the step: outside the mask, known already, queued. Assumes nothing.
-use mathlib.Core.Path.{_∙_}
 use Prim.Native.Nat.{_<_}
-use native.Mathlib.Nat.{le-trans}
 use native.Mathlib.Omega.{arith}
-use Rattle.sets.proofs.Members.{joined-in}
 use Rattle.planner.proofs.SearchLaws.{reached-none, one-place, one-new, one-holds}
 use borrow.Author.Needs.{needs}
 use Rattle.planner.proofs.search.reach_one.Statement.{statement}

@@ -1,8 +1,7 @@
 -- The loop keeps what was sought; each way out is a law of it. Assumes nothing.
 use Prim.Native.Nat.{_-_}
-use lib.ListN.{length}
 use native.Mathlib.Omega.{arith}
-use Rattle.planner.specs.Fill.{stock}
+use Rattle.planner.specs.Stock.{stock}
 use Rattle.planner.specs.Search.{Sought, known}
 use Rattle.planner.proofs.SeekLaws.{place-small, sought-start, sought-more, sought-room, sought-end}
 use borrow.Author.Needs.{needs}

@@ -167,10 +167,13 @@ module _ {F m : ℕ} {budgets masks : List ℕ} {s : Stock} {w : Trail} {p : ℕ
         twice : (r : ℕ) → r ≤ place-before w p → task-at w r ≡ task-at w p → place-before w r < r → ⊥
         twice r l i h = omega (arith, ap (at (w .from)) i)
 
-    pub back-kept : {s' : Stock} {start : List ℕ} {r : ℕ} → s .left ≡ start → r ≡ place-before w p → s' ≡ moved s w p
-        → Filling (demand F m budgets masks) s' × WayBack m masks s' w r × (s' .left ≡ start)
-    back-kept o e d = (
-      subst (Filling (demand F m budgets masks)) (sym d) moved-kept,
-      rw (e, d) (subst (λ (l : List ℕ). WayBack m masks (stock (moved s w p .units) l (moved s w p .room)) w (place-before w p)) (sym same-left) moved-way),
-      ap (λ (y : Stock). y .left) d ∙ same-left ∙ o,
-    )
+    pub back-filling : {s' : Stock} → s' ≡ moved s w p → Filling (demand F m budgets masks) s'
+    back-filling d = subst (Filling (demand F m budgets masks)) (sym d) moved-kept
+
+    pub back-left : {units' left' room' start : List ℕ} → stock units' left' room' ≡ moved s w p → s .left ≡ start → left' ≡ start
+    back-left d o = ap (λ (y : Stock). y .left) d ∙ same-left ∙ o
+
+    pub back-way : {s' : Stock} {r : ℕ} → s' ≡ moved s w p → r ≡ place-before w p → WayBack m masks s' w r
+    back-way d e =
+        rw (e, d)
+        (subst (λ (l : List ℕ). WayBack m masks (stock (moved s w p .units) l (moved s w p .room)) w (place-before w p)) (sym same-left) moved-way)

@@ -4,7 +4,7 @@ use native.Mathlib.Omega.{arith}
 use Rattle.planner.specs.Fill.{Filling, demand}
 use Rattle.planner.specs.Stock.{stock}
 use Rattle.planner.specs.Search.{WayBack, trail}
-use Rattle.planner.proofs.WayBackLaws.{way-small, back-less, back-fits, back-kept, last-fits, last-kept}
+use Rattle.planner.proofs.WayBackLaws.{way-small, back-less, back-fits, back-filling, back-way, back-left, last-fits, last-kept}
 use Rattle.planner.proofs.EndedLaws.{ended-whole, ended-short}
 use borrow.Author.Needs.{needs}
 use Rattle.planner.proofs.flow.advance.Statement.{statement}
@@ -62,10 +62,7 @@ loop-less c =
     omega (arith, c .step-back .ensures .0, back-less (inv .0) (inv .1) (test .if2 .taken))
 
 loop-again : tie.Need-loop-again Inv-loop μ-loop
-loop-again c =
-    let test = c .before .before .before .before .before .before .before in
-    let inv = test .before .before .before .loop .inv in
-    back-kept (inv .0) (inv .1) (test .if2 .taken) (inv .2) (c .step-back .ensures .0) (c .step-back .ensures .1)
+loop-again c = (search (back-filling, needs), search (back-way, needs), search (back-left, needs))
 
 place-last-requires : tie.Need-place-last-requires Inv-loop μ-loop
 place-last-requires c κs =

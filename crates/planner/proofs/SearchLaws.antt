@@ -21,7 +21,8 @@ use Rattle.sets.proofs.Members.{joined-in}
 use Rattle.stretches.specs.Cell.{cell}
 use Rattle.planner.specs.Stock.{Stock}
 use Rattle.planner.specs.declared.search.Seen.{Seen}
-use Rattle.planner.specs.Search.{Known, Queued, Visit, Counted, Holds, Gathered, Found, Onward, Reached, Met, Swept, known, queued, visit}
+use Rattle.planner.specs.declared.search.Visit.{Visit}
+use Rattle.planner.specs.Search.{Known, Queued, Counted, Holds, Gathered, Found, Onward, Reached, Met, Swept, known, queued, visit}
 
 -- a member and a number that is none are two
 apart : (s i j : ℕ) → has s i ≡ 1 → has s j ≡ 0 → i ≡ j → ⊥
@@ -254,10 +255,10 @@ module _ {m : ℕ} {v : Visit} {k : Known} (e : Counted m (k .seen)) where
   pub find-known : {b : ℕ} → b ≡ has (k .seen .tasks) (v .task) → b ≡ 1 → Met m v k k
   find-known d o = met-none (λ p. sym d ∙ o)
 
-module _ {m t mask weight p : ℕ} {queue via from : List ℕ} {s : Seen} where
-  find-one : {queue' via' : List ℕ} {s' : Seen} → 0 < weight → has (s .tasks) t ≡ 0
-      → Reached m t mask (queued queue via (met s t)) (queued queue' via' s') → Holds m mask (s' .cores)
-      → Met m (visit t mask weight p) (known queue via from s) (known queue' via' (set from t p) s')
+module _ {m : ℕ} {v : Visit} {queue via from : List ℕ} {s : Seen} where
+  find-one : {queue' via' : List ℕ} {s' : Seen} → 0 < v .weight → has (s .tasks) (v .task) ≡ 0
+      → Reached m (v .task) (v .mask) (queued queue via (met s (v .task))) (queued queue' via' s') → Holds m (v .mask) (s' .cores)
+      → Met m v (known queue via from s) (known queue' via' (set from (v .task) (v .place)) s')
   find-one {s' = s'} w z r all =
       record {
         onward =
@@ -265,27 +266,27 @@ module _ {m t mask weight p : ℕ} {queue via from : List ℕ} {s : Seen} where
               longer = r .onward .longer;
               counted = r .onward .counted;
               kept = r .onward .kept;
-              tasks = λ u h. r .onward .tasks u (with-keeps (s .tasks) t u h);
+              tasks = λ u h. r .onward .tasks u (with-keeps (s .tasks) (v .task) u h);
               cores = r .onward .cores;
             };
-        gathered = λ g. r .onward .tasks t (with-same (s .tasks) t);
+        gathered = λ g. r .onward .tasks (v .task) (with-same (s .tasks) (v .task));
         masks-in = λ masks d i u h.
             record {
               each = λ j l b.
-                  elim (ℕ-discrete u t) [
+                  elim (ℕ-discrete u (v .task)) [
                     | yes e ↦ all .each j l (sym (ap (λ (y : ℕ). has y j) (ap (at masks) e ∙ d)) ∙ b)
                     | no ne ↦
-                        r .onward .cores j (i u (sym (with-other (s .tasks) t u ne) ∙ sym (ap (λ (y : ℕ). has y u) (r .same-tasks)) ∙ h) .each j l b)
+                        r .onward .cores j (i u (sym (with-other (s .tasks) (v .task) u ne) ∙ sym (ap (λ (y : ℕ). has y u) (r .same-tasks)) ∙ h) .each j l b)
                   ];
             };
         found = λ masks a h d l usable f.
-            r .found masks a (set from t p) h d (with-same (s .tasks) t) (find-through f t p l z (usable w));
+            r .found masks a (set from (v .task) (v .place)) h d (with-same (s .tasks) (v .task)) (find-through f (v .task) (v .place) l z (usable w));
       }
 
-  pub find-new : {b k : ℕ} {queue' via' : List ℕ} {s' : Seen} → t < 64 → (weight ≡ 0 → ⊥) → b ≡ has (s .tasks) t → b < 2 → (b ≡ 1 → ⊥)
-      → k ≡ joined 64 (s .tasks) t → Reached m t mask (queued queue via (record { tail = s .tail; tasks = k; cores = s .cores })) (queued queue' via' s')
-      → Holds m mask (s' .cores) → Met m (visit t mask weight p) (known queue via from s) (known queue' via' (set from t p) s')
-  find-new l g f bit new c r all = find-one (omega arith) (none-yet f bit new) (rw (c ∙ joined-in 64 (s .tasks) t l) at r) all
+  pub find-new : {b k : ℕ} {queue' via' : List ℕ} {s' : Seen} → v .task < 64 → (v .weight ≡ 0 → ⊥) → b ≡ has (s .tasks) (v .task) → b < 2 → (b ≡ 1 → ⊥)
+      → k ≡ joined 64 (s .tasks) (v .task) → Reached m (v .task) (v .mask) (queued queue via (record { tail = s .tail; tasks = k; cores = s .cores })) (queued queue' via' s')
+      → Holds m (v .mask) (s' .cores) → Met m v (known queue via from s) (known queue' via' (set from (v .task) (v .place)) s')
+  find-new l g f bit new c r all = find-one (omega arith) (none-yet f bit new) (rw (c ∙ joined-in 64 (s .tasks) (v .task) l) at r) all
 
 -- ---- all tasks in turn
 

@@ -12,6 +12,7 @@ use Rattle.stretches.specs.Cell.{cell}
 use Rattle.overload.specs.Flow.{Stuck}
 use Rattle.planner.specs.Stock.{Stock}
 use Rattle.planner.specs.declared.search.Seen.{Seen}
+use Rattle.planner.specs.declared.search.Visit.{Visit}
 use Rattle.planner.specs.declared.search.Outcome.{Outcome}
 use Rattle.planner.specs.declared.search.Outcome.the-variants.{Room, Closed}
 
@@ -116,13 +117,6 @@ pub record Reached (m t mask : ℕ) (before after : Queued) : Type 0 where
   pub same-tasks : after .seen .tasks ≡ before .seen .tasks
   pub found : (masks : List ℕ) (s : Stock) (from : List ℕ) (h : ℕ) → at masks t ≡ mask → has (before .seen .tasks) t ≡ 1 →
       Found m masks s h (with-from before from) → Found m masks s h (with-from after from)
-
--- a visit to a task: its mask, what it weighs, and the place of the queue through which it is found
-pub record Visit : Type 0 where
-  pub task : ℕ
-  pub mask : ℕ
-  pub weight : ℕ
-  pub place : ℕ
 
 abbrev pub visit : (task mask weight place : ℕ) → Visit
 visit t mask weight p = record { task = t; mask = mask; weight = weight; place = p }

@@ -8,7 +8,7 @@ ghost use Rattle.rules.specs.Sets.{has};
 ghost use Rattle.rules.specs.Plan.{at};
 ghost use Rattle.stretches.specs.Cell.{cell};
 ghost use Rattle.planner.specs.Stock.{stock};
-ghost use Rattle.planner.specs.Search.{Counted, Holds, Gathered, Reached, Met, Swept, Sized, Sight, trail, known, queued, visit, nothing};
+ghost use Rattle.planner.specs.Search.{Counted, Holds, Gathered, Reached, Met, Swept, Sized, Sight, trail, known, queued, nothing};
 use sets::core_in;
 use sets::task_in;
 use sets::with_core;
@@ -25,6 +25,14 @@ pub(crate) struct Seen {
 pub(crate) enum Outcome {
     Room(usize),
     Closed { tasks: u64, cores: u16 },
+}
+
+// A visit to a task: its mask, what it weighs, and the place of the queue through which it is found.
+pub(crate) struct Visit {
+    pub task: usize,
+    pub mask: u16,
+    pub weight: u32,
+    pub place: usize,
 }
 
 // Core j is queued for task t, if its mask holds it and no task has reached it.
@@ -91,43 +99,42 @@ fn reach(
     s
 }
 
-// Task t, if it weighs anything and was not found before, is found through the place p of the queue, and reaches its cores.
+// The task visited, if it weighs anything and was not found before, is found, and reaches its cores.
 fn find(
     cores: usize,
-    t: usize,
-    mask: u16,
-    weight: u32,
-    p: usize,
+    visit: Visit,
     queue: &mut [usize; 16],
     via: &mut [usize; 16],
     from: &mut [usize; 64],
     seen: Seen,
 ) -> Seen
     requires few { ⌜ cores ≤ maxCores ⌝ }
-    requires task { ⌜ t < maxTasks ⌝ }
+    requires task { ⌜ visit .task < maxTasks ⌝ }
     requires counted { ⌜ Counted cores seen ⌝ }
     ensures met { λ r. ⌜
         Met
         cores
-        (visit t mask weight p)
+        visit
         (known (now (queue .entry)) (now (via .entry)) (now (from .entry)) seen)
         (known (now (queue .exit)) (now (via .exit)) (now (from .exit)) r)
         ⌝ }
 {
     let tasks = seen.tasks;
+    let t = visit.task;
+    let weight = visit.weight;
     if weight == 0 {
         return seen;
     }
     if task_in(tasks, t) == 1 {
         return seen;
     }
-    from[t] = p;
+    from[t] = visit.place;
     let next = Seen {
         tail: seen.tail,
         tasks: with_task(tasks, t),
         cores: seen.cores,
     };
-    reach(cores, t, mask, queue, via, next)
+    reach(cores, t, visit.mask, queue, via, next)
 }
 
 // The starts: all tasks that lack units.
@@ -159,7 +166,15 @@ fn begin(
     };
     let mut t = 0;
     while t < masks.len() {
-        s = find(cores, t, masks[t], left[t], 0, queue, via, from, s);
+        let mask = masks[t];
+        let weight = left[t];
+        let visit = Visit {
+            task: t,
+            mask,
+            weight,
+            place: 0,
+        };
+        s = find(cores, visit, queue, via, from, s);
         t += 1;
     }
     s
@@ -198,17 +213,15 @@ fn expand(
     let mut s = seen;
     let mut t = 0;
     while t < masks.len() {
-        s = find(
-            cores,
-            t,
-            masks[t],
-            units[t * 16 + core],
-            p,
-            queue,
-            via,
-            from,
-            s,
-        );
+        let mask = masks[t];
+        let weight = units[t * 16 + core];
+        let visit = Visit {
+            task: t,
+            mask,
+            weight,
+            place: p,
+        };
+        s = find(cores, visit, queue, via, from, s);
         t += 1;
     }
     s

@@ -17,17 +17,17 @@ abbrev μ-loop : tie.MeasureT-loop
 loop-holds : tie.Need-loop-holds Inv-loop μ-loop
 loop-holds c = (search needs, sweep-start (counted-nothing _), gather-none)
 
-mul-find : tie.Need-mul-find Inv-loop μ-loop
-mul-find c = search needs
+mul-mask : tie.Need-mul-mask Inv-loop μ-loop
+mul-mask c = search needs
 
-shared-slice-read-find : tie.Need-shared-slice-read-find Inv-loop μ-loop
-shared-slice-read-find c = search needs
+shared-slice-read-mask : tie.Need-shared-slice-read-mask Inv-loop μ-loop
+shared-slice-read-mask c = search needs
 
-mul-find-2 : tie.Need-mul-find-2 Inv-loop μ-loop
-mul-find-2 c = search needs
+mul-weight : tie.Need-mul-weight Inv-loop μ-loop
+mul-weight c = search needs
 
-element-copy-out-find : tie.Need-element-copy-out-find Inv-loop μ-loop
-element-copy-out-find c = search needs
+element-copy-out-weight : tie.Need-element-copy-out-weight Inv-loop μ-loop
+element-copy-out-weight c = search needs
 
 find-requires : tie.Need-find-requires Inv-loop μ-loop
 find-requires c κs = search needs
@@ -51,10 +51,10 @@ begin-spec =
     Inv-loop
     μ-loop
     loop-holds
-    mul-find
-    shared-slice-read-find
-    mul-find-2
-    element-copy-out-find
+    mul-mask
+    shared-slice-read-mask
+    mul-weight
+    element-copy-out-weight
     find-requires
     add-t
     loop-less

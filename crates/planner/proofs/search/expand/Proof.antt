@@ -24,23 +24,23 @@ element-copy-out-core c = search needs
 loop-holds : tie.Need-loop-holds Inv-loop μ-loop
 loop-holds c = search (sweep-start, gather-none, needs)
 
-mul-find : tie.Need-mul-find Inv-loop μ-loop
-mul-find c = search needs
+mul-mask : tie.Need-mul-mask Inv-loop μ-loop
+mul-mask c = search needs
 
-shared-slice-read-find : tie.Need-shared-slice-read-find Inv-loop μ-loop
-shared-slice-read-find c = search needs
+shared-slice-read-mask : tie.Need-shared-slice-read-mask Inv-loop μ-loop
+shared-slice-read-mask c = search needs
 
-mul-find-2 : tie.Need-mul-find-2 Inv-loop μ-loop
-mul-find-2 c = search needs
+mul-weight : tie.Need-mul-weight Inv-loop μ-loop
+mul-weight c = search needs
 
-add-find : tie.Need-add-find Inv-loop μ-loop
-add-find c = search needs
+add-weight : tie.Need-add-weight Inv-loop μ-loop
+add-weight c = search needs
 
-mul-find-3 : tie.Need-mul-find-3 Inv-loop μ-loop
-mul-find-3 c = search needs
+mul-weight-2 : tie.Need-mul-weight-2 Inv-loop μ-loop
+mul-weight-2 c = search needs
 
-element-copy-out-find : tie.Need-element-copy-out-find Inv-loop μ-loop
-element-copy-out-find c = search needs
+element-copy-out-weight : tie.Need-element-copy-out-weight Inv-loop μ-loop
+element-copy-out-weight c = search needs
 
 find-requires : tie.Need-find-requires Inv-loop μ-loop
 find-requires c κs = search needs
@@ -52,7 +52,9 @@ loop-less : tie.Need-loop-less Inv-loop μ-loop
 loop-less c = search needs
 
 loop-again : tie.Need-loop-again Inv-loop μ-loop
-loop-again c = (search needs, search (sweep-more, needs), search (gather-more, needs))
+loop-again c =
+    let inv = c .before .before .before .before .before .before .before .loop .inv in
+    (search needs, search (sweep-more, needs), gather-more _ (c .find .ensures) (inv .2))
 
 returns : tie.Need-returns Inv-loop μ-loop
 returns c = search (gather-all, needs)
@@ -66,12 +68,12 @@ expand-spec =
     mul-core
     element-copy-out-core
     loop-holds
-    mul-find
-    shared-slice-read-find
-    mul-find-2
-    add-find
-    mul-find-3
-    element-copy-out-find
+    mul-mask
+    shared-slice-read-mask
+    mul-weight
+    add-weight
+    mul-weight-2
+    element-copy-out-weight
     find-requires
     add-t
     loop-less

@@ -66,7 +66,7 @@ sized-start = record { queue-long = refl; via-long = refl; from-long = refl }
 module _ {F m : ℕ} {budgets masks : List ℕ} {s : Stock} {t j : ℕ} (f : Filling (demand F m budgets masks) s) (t-in : t < length budgets)
     (j-in : j < m) where
   pub on-fits : ShareFits s t j
-  on-fits = sharing f t j 0 t-in j-in
+  on-fits = sharing f t-in j-in
 
   pub on-kept : {s' : Stock} {mask : ℕ} → at masks t ≡ mask → PlacedOn s t j mask s' → Filling (demand F m budgets masks) s'
   on-kept {mask = mask} e p =

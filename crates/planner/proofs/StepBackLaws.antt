@@ -4,8 +4,8 @@ use mathlib.Core.Path.{_≡_, _∙_}
 use Prim.Native.Nat.{ℕ}
 use native.Mathlib.Omega.{arith}
 use Rattle.planner.specs.Stock.{Stock, PlaceFits, ShareFits, placed, taken, share, shared}
-use Rattle.planner.specs.Search.{Trail}
-use Rattle.planner.specs.Back.{StepFits, backward, moved, task-at, core-at, core-before}
+use Rattle.planner.specs.Search.{Trail, task-at, core-at, core-before}
+use Rattle.planner.specs.Back.{StepFits, backward, moved}
 
 pub step-place : {s s₁ : Stock} {w : Trail} {p t k d : ℕ} → StepFits s w p → t ≡ task-at w p → k ≡ core-at w p → d ≡ backward s w p
     → s₁ ≡ taken s t (core-before w p) d → PlaceFits s₁ t k d

@@ -161,14 +161,6 @@ module _ {F m : ℕ} {budgets masks : List ℕ} {s : Stock} (f : Filling (demand
       even s h e g = omega arith
 
   -- what is placed or taken fits a number of 32 bits
-  pub sharing : ShareFits s i j
-  sharing =
-      record {
-        task = i-small;
-        core = j-small;
-        units-fit = omega (arith, sum-term (length budgets) i (λ a. cell (s .units) a j) i-in, f .column j j-in, f .given .frame);
-      }
-
   pub placing : d ≤ at (s .left) i → d ≤ at (s .room) j → PlaceFits s i j d
   placing l r =
       record {
@@ -188,3 +180,11 @@ module _ {F m : ℕ} {budgets masks : List ℕ} {s : Stock} (f : Filling (demand
         left-fits = omega (arith, sum-term m j (cell (s .units) i) j-in, f .row i i-in, f .given .small i i-in, f .given .frame);
         room-fits = omega (arith, sum-term (length budgets) i (λ a. cell (s .units) a j) i-in, f .column j j-in, f .given .frame);
       }
+
+pub sharing : {F m : ℕ} {budgets masks : List ℕ} {s : Stock} {i j : ℕ} → Filling (demand F m budgets masks) s → i < length budgets → j < m → ShareFits s i j
+sharing {budgets = budgets} {s = s} {i = i} {j = j} f i-in j-in =
+    record {
+      task = le-trans i-in (f .given .tasks);
+      core = le-trans j-in (f .given .cores);
+      units-fit = omega (arith, sum-term (length budgets) i (λ a. cell (s .units) a j) i-in, f .column j j-in, f .given .frame);
+    }

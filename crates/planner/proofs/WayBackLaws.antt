@@ -16,8 +16,8 @@ use Rattle.sums.proofs.Sets.{has-one}
 use Rattle.stretches.specs.Cell.{cell}
 use Rattle.planner.specs.Fill.{Filling, demand, lack}
 use Rattle.planner.specs.Stock.{ShareFits, Stock, stock, share, shared}
-use Rattle.planner.specs.Search.{Trail, WayBack}
-use Rattle.planner.specs.Back.{StepFits, task-at, core-at, place-before, core-before, backward, freed, moved}
+use Rattle.planner.specs.Search.{Trail, WayBack, task-at, core-at, place-before, core-before}
+use Rattle.planner.specs.Back.{StepFits, backward, freed, moved}
 use Rattle.planner.specs.Filled.{MoreBy}
 use Rattle.planner.proofs.StepLaws.{raise-same, raise-other, lower-same, lower-other, raise-lower, taken-kept, placed-kept, placing, taking, sharing}
 
@@ -35,7 +35,7 @@ module _ {F m : ℕ} {budgets masks : List ℕ} {s : Stock} {w : Trail} {p : ℕ
   -- ---- the last step: the task lacks units
 
   pub last-fits : ShareFits s (task-at w p) (core-at w p)
-  last-fits = sharing f (task-at w p) (core-at w p) 0 task-in core-in
+  last-fits = sharing f task-in core-in
 
   pub last-kept : {s' start : Stock} → (at (s .left) (task-at w p) ≡ 0 → ⊥) → s .left ≡ start .left → s' ≡ shared s (task-at w p) (core-at w p)
       → MoreBy (demand F m budgets masks) start s'
@@ -43,13 +43,10 @@ module _ {F m : ℕ} {budgets masks : List ℕ} {s : Stock} {w : Trail} {p : ℕ
       record {
         filling =
             subst (Filling (demand F m budgets masks)) (sym e)
-            (placed-kept f (task-at w p) (core-at w p) d task-in core-in (b .allowed p (le-refl p)) (min-le-right _ _) (min-le-left _ _));
+            (placed-kept f (task-at w p) (core-at w p) (share s (task-at w p) (core-at w p)) task-in core-in (b .allowed p (le-refl p)) (min-le-right _ _) (min-le-left _ _));
         less = rw (e, ← o) less;
       }
     where
-      d : ℕ
-      d = share s (task-at w p) (core-at w p)
-
       less : lack (demand F m budgets masks) (shared s (task-at w p) (core-at w p)) < lack (demand F m budgets masks) s
       less =
           omega (

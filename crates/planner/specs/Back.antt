@@ -6,21 +6,7 @@ use Rattle.rules.specs.Sizes.{maxCores}
 use Rattle.rules.specs.Plan.{at}
 use Rattle.stretches.specs.Cell.{cell}
 use Rattle.planner.specs.Stock.{Stock, PlaceFits, TakeFits, placed, taken}
-use Rattle.planner.specs.Search.{Trail}
-
--- at the place p of the queue: the core, the task that reached it, and the earlier place through which that task was found
-abbrev pub core-at : Trail → ℕ → ℕ
-core-at w p = at (w .queue) p
-
-abbrev pub task-at : Trail → ℕ → ℕ
-task-at w p = at (w .via) p
-
-abbrev pub place-before : Trail → ℕ → ℕ
-place-before w p = at (w .from) (task-at w p)
-
--- the core of that earlier place, from which the task's units come
-abbrev pub core-before : Trail → ℕ → ℕ
-core-before w p = core-at w (place-before w p)
+use Rattle.planner.specs.Search.{Trail, core-at, task-at, place-before, core-before}
 
 -- so many units as the one core has room for, and the task has on the other
 abbrev pub backward : Stock → Trail → ℕ → ℕ

@@ -30,6 +30,20 @@ pub record Trail : Type 0 where
 abbrev pub trail : List ℕ → List ℕ → List ℕ → Trail
 trail queue via from = record { queue = queue; via = via; from = from }
 
+-- at the place p of the queue: the core, and the task that reached it
+abbrev pub core-at : Trail → ℕ → ℕ
+core-at w p = at (w .queue) p
+
+abbrev pub task-at : Trail → ℕ → ℕ
+task-at w p = at (w .via) p
+
+-- the earlier place through which that task was found, and the core there
+abbrev pub place-before : Trail → ℕ → ℕ
+place-before w p = at (w .from) (task-at w p)
+
+abbrev pub core-before : Trail → ℕ → ℕ
+core-before w p = core-at w (place-before w p)
+
 -- the lists have their lengths
 pub record Sized (w : Trail) : Type 0 where
   pub queue-long : length (w .queue) ≡ maxCores
@@ -91,15 +105,15 @@ pub record Found (m : ℕ) (masks : List ℕ) (s : Stock) (h : ℕ) (k : Known) 
   -- the queue lists the cores found, each once
   pub counted : Counted m (k .seen)
   pub under : h ≤ k .seen .tail
-  pub listed : (p : ℕ) → p < k .seen .tail → has (k .seen .cores) (at (k .trail-of .queue) p) ≡ 1
-  pub every : (j : ℕ) → has (k .seen .cores) j ≡ 1 → (p : ℕ) × (p < k .seen .tail) × (at (k .trail-of .queue) p ≡ j)
+  pub listed : (p : ℕ) → p < k .seen .tail → has (k .seen .cores) (core-at (k .trail-of) p) ≡ 1
+  pub every : (j : ℕ) → has (k .seen .cores) j ≡ 1 → (p : ℕ) × (p < k .seen .tail) × (core-at (k .trail-of) p ≡ j)
   -- each through a task found, whose mask holds it
-  pub through : (p : ℕ) → p < k .seen .tail → has (k .seen .tasks) (at (k .trail-of .via) p) ≡ 1
-  pub allowed : (p : ℕ) → p < k .seen .tail → has (at masks (at (k .trail-of .via) p)) (at (k .trail-of .queue) p) ≡ 1
+  pub through : (p : ℕ) → p < k .seen .tail → has (k .seen .tasks) (task-at (k .trail-of) p) ≡ 1
+  pub allowed : (p : ℕ) → p < k .seen .tail → has (at masks (task-at (k .trail-of) p)) (core-at (k .trail-of) p) ≡ 1
   -- a task that lacks nothing was found through an earlier core, on which it has units
-  pub earlier : (p : ℕ) → p < k .seen .tail → at (s .left) (at (k .trail-of .via) p) ≡ 0 → at (k .trail-of .from) (at (k .trail-of .via) p) < p
+  pub earlier : (p : ℕ) → p < k .seen .tail → at (s .left) (task-at (k .trail-of) p) ≡ 0 → place-before (k .trail-of) p < p
   pub asked : (t : ℕ) → has (k .seen .tasks) t ≡ 1 → at (s .left) t ≡ 0 → at (k .trail-of .from) t < h
-  pub holding : (t : ℕ) → has (k .seen .tasks) t ≡ 1 → at (s .left) t ≡ 0 → 0 < cell (s .units) t (at (k .trail-of .queue) (at (k .trail-of .from) t))
+  pub holding : (t : ℕ) → has (k .seen .tasks) t ≡ 1 → at (s .left) t ≡ 0 → 0 < cell (s .units) t (core-at (k .trail-of) (at (k .trail-of .from) t))
 
 -- ---- what the steps of a search do
 
@@ -123,7 +137,7 @@ visit t mask weight p = record { task = t; mask = mask; weight = weight; place =
 
 -- task t may be found through the place p: if it lacks nothing, it has units on the core there, and the place lies before h
 abbrev pub Usable : Stock → Known → (t p h : ℕ) → Type 0
-Usable s k t p h = at (s .left) t ≡ 0 → (p < h) × (0 < cell (s .units) t (at (k .trail-of .queue) p))
+Usable s k t p h = at (s .left) t ≡ 0 → (p < h) × (0 < cell (s .units) t (core-at (k .trail-of) p))
 
 -- the task, if it weighs anything, is found, and the cores of its mask are
 pub record Met (m : ℕ) (v : Visit) (before after : Known) : Type 0 where
@@ -145,8 +159,8 @@ pub record Sought (m : ℕ) (masks : List ℕ) (s : Stock) (h : ℕ) (k : Known)
   pub found : Found m masks s h k
   pub starts : Gathered (length masks) (at (s .left)) (k .seen .tasks)
   pub masks-in : MasksIn m masks (k .seen)
-  pub full : (p : ℕ) → p < h → at (s .room) (at (k .trail-of .queue) p) ≡ 0
-  pub held : (p : ℕ) → p < h → Gathered (length masks) (λ t. cell (s .units) t (at (k .trail-of .queue) p)) (k .seen .tasks)
+  pub full : (p : ℕ) → p < h → at (s .room) (core-at (k .trail-of) p) ≡ 0
+  pub held : (p : ℕ) → p < h → Gathered (length masks) (λ t. cell (s .units) t (core-at (k .trail-of) p)) (k .seen .tasks)
 
 -- ---- what a search answers
 
@@ -154,12 +168,12 @@ pub record Sought (m : ℕ) (masks : List ℕ) (s : Stock) (h : ℕ) (k : Known)
 -- the core of an earlier place
 pub record WayBack (m : ℕ) (masks : List ℕ) (s : Stock) (w : Trail) (p : ℕ) : Type 0 where
   pub place : p < maxCores
-  pub core : (r : ℕ) → r ≤ p → at (w .queue) r < m
-  pub task : (r : ℕ) → r ≤ p → at (w .via) r < length masks
-  pub allowed : (r : ℕ) → r ≤ p → has (at masks (at (w .via) r)) (at (w .queue) r) ≡ 1
-  pub earlier : (r : ℕ) → r ≤ p → at (s .left) (at (w .via) r) ≡ 0 → at (w .from) (at (w .via) r) < r
-  pub holding : (r : ℕ) → r ≤ p → at (s .left) (at (w .via) r) ≡ 0 → 0 < cell (s .units) (at (w .via) r) (at (w .queue) (at (w .from) (at (w .via) r)))
-  pub room-there : 0 < at (s .room) (at (w .queue) p)
+  pub core : (r : ℕ) → r ≤ p → core-at w r < m
+  pub task : (r : ℕ) → r ≤ p → task-at w r < length masks
+  pub allowed : (r : ℕ) → r ≤ p → has (at masks (task-at w r)) (core-at w r) ≡ 1
+  pub earlier : (r : ℕ) → r ≤ p → at (s .left) (task-at w r) ≡ 0 → place-before w r < r
+  pub holding : (r : ℕ) → r ≤ p → at (s .left) (task-at w r) ≡ 0 → 0 < cell (s .units) (task-at w r) (core-before w r)
+  pub room-there : 0 < at (s .room) (core-at w p)
 
 -- a core with room, or no core has any
 abbrev pub Sight : ℕ → List ℕ → Stock → Trail → Outcome → Type 0

@@ -42,7 +42,9 @@ expand-requires c κs =
     (search needs, (search needs, (small .0, (small .1, search needs))))
 
 add-head : tie.Need-add-head Inv-loop μ-loop
-add-head c = search (place-small, needs)
+add-head c =
+    let test = c .before .before .before .before .before .before .before in
+    omega (arith, place-small (test .before .before .loop .inv) (test .if1 .taken))
 
 loop-less : tie.Need-loop-less Inv-loop μ-loop
 loop-less c =

@@ -12,7 +12,6 @@ use Rattle.rules.specs.Sum.{sumTo}
 use Rattle.rules.specs.Sets.{has}
 use Rattle.rules.specs.Plan.{at}
 use Rattle.rules.specs.Excess.{groupBudget, capacity}
-use Rattle.sums.proofs.Order.{above-or-at}
 use Rattle.sums.proofs.Sum.{sum-split, sum-zero}
 use Rattle.sums.proofs.Sets.{has-above, has-none}
 use Rattle.stretches.specs.Cell.{cell}
@@ -67,7 +66,7 @@ module _ {F m : ℕ} {budgets masks : List ℕ} {s : Stock} (f : Filling (demand
         outside i j l =
             elim (decLt i (length budgets)) [
               | yes k ↦ has-above m (f .given .narrow i k) l
-              | no k ↦ ap (λ (v : ℕ). has v j) (List·getD-eq-default masks 0 (past (above-or-at k))) ∙ has-none j
+              | no k ↦ ap (λ (v : ℕ). has v j) (List·getD-eq-default masks 0 (past {i = i} (omega arith))) ∙ has-none j
             ]
 
     pub ended-short : {e : ℕ} → e ≡ groupBudget (length budgets) (at budgets) g - capacity 16 (λ j. F) c → (e ≡ 0 → ⊥) → ShortBy F m budgets masks g c

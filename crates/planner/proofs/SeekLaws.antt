@@ -11,7 +11,7 @@ use lib.ListN.{length}
 use lib.Pow.{pow-pos}
 use Rattle.rules.specs.Sets.{has}
 use Rattle.rules.specs.Plan.{at}
-use Rattle.sums.proofs.Order.{zero-not-one, zero-not-positive, none-above, before-last}
+use Rattle.sums.proofs.Order.{zero-not-one, zero-not-positive, zero-of, before-last}
 use Rattle.sums.proofs.Sets.{has-none, has-below}
 use Rattle.stretches.specs.Cell.{cell}
 use Rattle.overload.specs.Flow.{Closed, Stuck}
@@ -140,8 +140,8 @@ module _ {m : ℕ} {masks : List ℕ} {a : Stock} {queue via from : List ℕ} wh
             elim (decLt 0 (at (a .left) t)) [
               | yes u ↦ k .starts t t-in u
               | no z ↦
-                  k .units (at queue (at from t)) (listed-in (at from t) (omega (arith, f .found .asked t e (none-above z), f .found .under))) (through (none-above z)) t t-in
-                  (f .found .holding t e (none-above z))
+                  k .units (at queue (at from t)) (listed-in (at from t) (omega (arith, f .found .asked t e (zero-of z), f .found .under))) (through (zero-of z)) t t-in
+                  (f .found .holding t e (zero-of z))
             ]
           where
             t-in : t < length masks

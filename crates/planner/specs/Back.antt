@@ -8,11 +8,11 @@ use Rattle.stretches.specs.Cell.{cell}
 use Rattle.planner.specs.Stock.{Stock, PlaceFits, TakeFits, placed, taken}
 use Rattle.planner.specs.Search.{Trail, core-at, task-at, place-before, core-before}
 
--- so many units as the one core has room for, and the task has on the other
+-- the units that a step moves: as many as the core at the place p has room for, and as the task there has on the core before
 abbrev pub backward : Stock → Trail → ℕ → ℕ
 backward s w p = min (at (s .room) (core-at w p)) (cell (s .units) (task-at w p) (core-before w p))
 
--- the stock when they left the earlier core, and when they stand on the core with room
+-- the stock when they left the core before, and when they stand on the core with room
 abbrev pub freed : Stock → Trail → ℕ → Stock
 freed s w p = taken s (task-at w p) (core-before w p) (backward s w p)
 

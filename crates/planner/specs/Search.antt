@@ -132,6 +132,7 @@ pub record Reached (m t mask : ℕ) (before after : Queued) : Type 0 where
   pub found : (masks : List ℕ) (s : Stock) (from : List ℕ) (h : ℕ) → at masks t ≡ mask → has (before .seen .tasks) t ≡ 1 →
       Found m masks s h (with-from before from) → Found m masks s h (with-from after from)
 
+-- a visit to a task: its mask, what it weighs, and the place of the queue through which it is found
 abbrev pub visit : (task mask weight place : ℕ) → Visit
 visit t mask weight p = record { task = t; mask = mask; weight = weight; place = p }
 

@@ -29,7 +29,7 @@ raise l k d = set l k (getD l k 0 + d)
 unfoldable pub lower : List ℕ → ℕ → ℕ → List ℕ
 lower l k d = set l k (getD l k 0 - d)
 
--- the stock when d units of task t more stand on core j, and when d of them left it
+-- the stock when d more units of task t stand on core j, and when d of them left it
 abbrev pub placed : Stock → ℕ → ℕ → ℕ → Stock
 placed s t j d = stock (raise (s .units) (t * 16 + j) d) (lower (s .left) t d) (lower (s .room) j d)
 

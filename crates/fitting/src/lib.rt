@@ -123,13 +123,7 @@ fn sizes_fit(frame: u32, tasks: usize, cores: usize) -> bool
 }
 
 // Whether the units fit, with room for `room` pieces.
-pub fn units_fit(
-    frame: u32,
-    tasks: usize,
-    cores: usize,
-    units: &[u32; 1024],
-    room: usize,
-) -> bool
+pub fn units_fit(frame: u32, tasks: usize, cores: usize, units: &[u32; 1024], room: usize) -> bool
     ensures { λ r. ⌜ Tells (Fits frame tasks cores (cell (now (units .entry))) room) r ⌝ }
 {
     if !sizes_fit(frame, tasks, cores) {

@@ -1,7 +1,6 @@
-pub mod BackLaws
 pub mod CycleLaws
 pub mod DecideLaws
-pub mod EndLaws
+pub mod EndedLaws
 pub mod FillLaws
 pub mod Links
 pub mod Loose
@@ -9,8 +8,9 @@ pub mod Promised
 pub mod RingLaws
 pub mod SearchLaws
 pub mod SeekLaws
-pub mod ShiftLaws
+pub mod StepBackLaws
 pub mod StepLaws
 pub mod Stores
 pub mod UnloopLaws
+pub mod WayBackLaws
 pub mod WayLaws

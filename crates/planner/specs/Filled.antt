@@ -4,13 +4,13 @@ use mathlib.Core.Path.{_≡_}
 use mathlib.Core.List.{List}
 use Prim.Native.Nat.{ℕ, _≤_, _<_}
 use lib.ListN.{length}
-use Rattle.rules.specs.Sum.{sumTo}
 use Rattle.rules.specs.Sets.{has, union}
 use Rattle.rules.specs.Plan.{at}
-use Rattle.rules.specs.Allocation.{Allocation}
+use Rattle.rules.specs.Allocation.{limitOf, Allocation}
 use Rattle.rules.specs.Excess.{Exceeds, Smallest}
 use Rattle.stretches.specs.Cell.{cell}
-use Rattle.planner.specs.Fill.{Filling}
+use Rattle.planner.specs.Fill.{Demand, Filling, lack}
+use Rattle.planner.specs.Stock.{Stock}
 use Rattle.planner.specs.declared.flow.Filled.{Filled}
 use Rattle.planner.specs.declared.flow.Filled.the-variants.{Whole, Short}
 use Rattle.planner.specs.declared.flow.Pass.{Pass}
@@ -19,14 +19,14 @@ use Rattle.planner.specs.declared.flow.Pass.the-variants.{More, Ended}
 -- the units are an allocation, and stand nowhere else
 pub record WholeBy (F m : ℕ) (budgets masks units : List ℕ) : Type 0 where
   pub long : length units ≡ 1024
-  pub allocation : Allocation (length budgets) m (λ j. F) (at budgets) (at masks) (cell units)
+  pub allocation : Allocation (length budgets) m (limitOf F) (at budgets) (at masks) (cell units)
   pub tasks-beyond : (i : ℕ) → length budgets ≤ i → (j : ℕ) → j < 16 → cell units i j ≡ 0
   pub cores-beyond : (i j : ℕ) → m ≤ j → j < 16 → cell units i j ≡ 0
 
 -- the group's excess is above zero, it is the smallest of those of greatest excess, c is the union of its masks, and no budget of it is 0
 pub record ShortBy (F m : ℕ) (budgets masks : List ℕ) (g c : ℕ) : Type 0 where
-  pub exceeds : Exceeds (length budgets) m (λ j. F) (at budgets) (at masks) g
-  pub smallest : Smallest (length budgets) m (λ j. F) (at budgets) (at masks) g
+  pub exceeds : Exceeds (length budgets) m (limitOf F) (at budgets) (at masks) g
+  pub smallest : Smallest (length budgets) m (limitOf F) (at budgets) (at masks) g
   pub cores : c ≡ union (length budgets) (at masks) g
   pub no-zero : (i : ℕ) → i < length budgets → has g i ≡ 1 → 0 < at budgets i
 
@@ -35,10 +35,10 @@ FilledBy F m budgets masks units Whole = WholeBy F m budgets masks units
 FilledBy F m budgets masks units (Short g c) = ShortBy F m budgets masks g c
 
 -- a partial allocation that lacks less than before
-pub record MoreBy (F m : ℕ) (budgets masks before units left room : List ℕ) : Type 0 where
-  pub filling : Filling F m budgets masks units left room
-  pub less : sumTo (length budgets) (at left) < sumTo (length budgets) (at before)
+pub record MoreBy (asked : Demand) (before after : Stock) : Type 0 where
+  pub filling : Filling asked after
+  pub less : lack asked after < lack asked before
 
-abbrev pub PassBy : (F m : ℕ) → (budgets masks before units left room : List ℕ) → Pass → Type 0
-PassBy F m budgets masks before units left room More = MoreBy F m budgets masks before units left room
-PassBy F m budgets masks before units left room (Ended f) = FilledBy F m budgets masks units f
+abbrev pub PassBy : Demand → (before after : Stock) → Pass → Type 0
+PassBy asked before after More = MoreBy asked before after
+PassBy asked before after (Ended f) = FilledBy (asked .frame) (asked .cores) (asked .budgets) (asked .masks) (after .units) f

@@ -6,3 +6,4 @@ pub mod Plan
 pub mod Search
 pub mod Seeking
 pub mod Shifts
+pub mod Stock

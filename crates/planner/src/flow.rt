@@ -1,16 +1,17 @@
 // A greatest allocation of units to cores, or the group that lacks most: the search of `search`, run until it finds no core with room.
 ghost use mathlib.Core.Path.{_≡_};
-ghost use Prim.Native.Nat.{_+_, _≤_, _<_};
+ghost use Prim.Native.Nat.{_≤_, _<_};
 ghost use lib.ListN.{length};
-ghost use Rattle.stretches.specs.Cell.{cell};
-ghost use Rattle.planner.specs.Search.{Sized};
+ghost use Rattle.rules.specs.Sizes.{maxCores, maxTasks};
 ghost use Rattle.rules.specs.Plan.{at};
-ghost use Rattle.planner.specs.Fill.{Filling, FillReady, Copied};
-ghost use Rattle.planner.specs.Back.{ShiftFits, Shifted, PlaceFits, Placed, PlacedOn, Reads, backward, lacking};
+ghost use Rattle.planner.specs.Fill.{Filling, FillReady, Copied, demand};
+ghost use Rattle.planner.specs.Stock.{ShareFits, PlacedOn, stock, shared};
+ghost use Rattle.planner.specs.Search.{Sized, trail, place-before};
+ghost use Rattle.planner.specs.Back.{StepFits, moved};
 ghost use Rattle.planner.specs.Filled.{FilledBy, PassBy};
 use crate::search::Outcome;
 use crate::search::seek;
-use crate::steps::least;
+use crate::steps::lesser;
 use crate::steps::place;
 use crate::steps::take;
 use overload::excess;
@@ -38,50 +39,28 @@ fn step_back(
     from: &[usize; 64],
     p: usize,
 ) -> usize
-    requires { ⌜
-        Reads (now queue) (now via) (now from) p
-        × ShiftFits
-        (now units)
-        (now left)
-        (now room)
-        (at (now via) p)
-        (at (now queue) (at (now from) (at (now via) p)))
-        (at (now queue) p)
-        (backward (now units) (now room) (now queue) (now via) (now from) p)
-        ⌝ }
-    ensures { λ r. ⌜
-        (r ≡ at (now (from .entry)) (at (now (via .entry)) p))
-        × Shifted
-        (now (units .entry))
-        (now (left .entry))
-        (now (room .entry))
-        (at (now (via .entry)) p)
-        (at (now (queue .entry)) (at (now (from .entry)) (at (now (via .entry)) p)))
-        (at (now (queue .entry)) p)
-        (backward
-        (now (units .entry))
-        (now (room .entry))
-        (now (queue .entry))
-        (now (via .entry))
-        (now (from .entry))
-        p)
-        (now (units .exit))
-        (now (left .exit))
-        (now (room .exit))
+    requires { ⌜ StepFits (stock (now units) (now left) (now room)) (trail (now queue) (now via) (now from)) p ⌝ }
+    ensures place { λ r. ⌜ r ≡ place-before (trail (now (queue .entry)) (now (via .entry)) (now (from .entry))) p ⌝ }
+    ensures moved { λ _. ⌜
+        stock (now (units .exit)) (now (left .exit)) (now (room .exit))
+        ≡ moved
+        (stock (now (units .entry)) (now (left .entry)) (now (room .entry)))
+        (trail (now (queue .entry)) (now (via .entry)) (now (from .entry)))
+        p
         ⌝ }
 {
     let t = via[p];
     let q = from[t];
     let core = queue[p];
     let earlier = queue[q];
-    let d = least(room[core], units[t * 16 + earlier]);
+    let d = lesser(room[core], units[t * 16 + earlier]);
     take(units, left, room, t, earlier, d);
     place(units, left, room, t, core, d);
     q
 }
 
 // The end of the way back: the task at the place p lacks units, and the core there has room.
-fn settle(
+fn place_last(
     units: &mut [u32; 1024],
     left: &mut [u32; 64],
     room: &mut [u32; 16],
@@ -89,32 +68,19 @@ fn settle(
     via: &[usize; 16],
     p: usize,
 )
-    requires { ⌜
-        (p < 16)
-        × PlaceFits
-        (now units)
-        (now left)
-        (now room)
-        (at (now via) p)
-        (at (now queue) p)
-        (lacking (now left) (now room) (now queue) (now via) p)
-        ⌝ }
-    ensures { λ _. ⌜
-        Placed
-        (now (units .entry))
-        (now (left .entry))
-        (now (room .entry))
+    requires place { ⌜ p < maxCores ⌝ }
+    requires fits { ⌜ ShareFits (stock (now units) (now left) (now room)) (at (now via) p) (at (now queue) p) ⌝ }
+    ensures shared { λ _. ⌜
+        stock (now (units .exit)) (now (left .exit)) (now (room .exit))
+        ≡ shared
+        (stock (now (units .entry)) (now (left .entry)) (now (room .entry)))
         (at (now (via .entry)) p)
         (at (now (queue .entry)) p)
-        (lacking (now (left .entry)) (now (room .entry)) (now (queue .entry)) (now (via .entry)) p)
-        (now (units .exit))
-        (now (left .exit))
-        (now (room .exit))
         ⌝ }
 {
     let t = via[p];
     let core = queue[p];
-    let d = least(room[core], left[t]);
+    let d = lesser(room[core], left[t]);
     place(units, left, room, t, core, d);
 }
 
@@ -132,21 +98,14 @@ fn advance(
     via: &mut [usize; 16],
     from: &mut [usize; 64],
 ) -> Pass
-    requires { ⌜
-        Filling frame cores (now budgets) (now masks) (now units) (now left) (now room)
-        × Sized (now queue) (now via) (now from)
-        ⌝ }
-    ensures { λ r. ⌜
-        Sized (now (queue .exit)) (now (via .exit)) (now (from .exit))
-        × PassBy
-        frame
-        cores
-        (now (budgets .entry))
-        (now (masks .entry))
-        (now (left .entry))
-        (now (units .exit))
-        (now (left .exit))
-        (now (room .exit))
+    requires filling { ⌜ Filling (demand frame cores (now budgets) (now masks)) (stock (now units) (now left) (now room)) ⌝ }
+    requires sized { ⌜ Sized (trail (now queue) (now via) (now from)) ⌝ }
+    ensures sized { λ _. ⌜ Sized (trail (now (queue .exit)) (now (via .exit)) (now (from .exit))) ⌝ }
+    ensures pass { λ r. ⌜
+        PassBy
+        (demand frame cores (now (budgets .entry)) (now (masks .entry)))
+        (stock (now (units .entry)) (now (left .entry)) (now (room .entry)))
+        (stock (now (units .exit)) (now (left .exit)) (now (room .exit)))
         r
         ⌝ }
 {
@@ -169,7 +128,7 @@ fn advance(
             while left[via[p]] == 0 {
                 p = step_back(units, left, room, queue, via, from, p);
             }
-            settle(units, left, room, queue, via, p);
+            place_last(units, left, room, queue, via, p);
             Pass::More
         }
     }
@@ -177,8 +136,9 @@ fn advance(
 
 // What lacks at first: all budgets.
 fn copy_budgets(budgets: &[u32], left: &mut [u32; 64])
-    requires { ⌜ (length (now budgets) ≤ 64) × (length (now left) ≡ 64) ⌝ }
-    ensures { λ _. ⌜ Copied (now (budgets .entry)) (now (left .exit)) (length (now (budgets .entry))) ⌝ }
+    requires few { ⌜ length (now budgets) ≤ maxTasks ⌝ }
+    requires long { ⌜ length (now left) ≡ maxTasks ⌝ }
+    ensures copied { λ _. ⌜ Copied (now (budgets .entry)) (now (left .exit)) (length (now (budgets .entry))) ⌝ }
 {
     let mut i = 0;
     while i < budgets.len() {
@@ -196,24 +156,20 @@ fn place_on(
     mask: u16,
     j: usize,
 )
-    requires { ⌜ (t < 64) × (j < 16) × (cell (now units) t j + at (now room) j ≤ 1000000) ⌝ }
+    requires { ⌜ ShareFits (stock (now units) (now left) (now room)) t j ⌝ }
     ensures { λ _. ⌜
         PlacedOn
-        (now (units .entry))
-        (now (left .entry))
-        (now (room .entry))
+        (stock (now (units .entry)) (now (left .entry)) (now (room .entry)))
         t
         j
         mask
-        (now (units .exit))
-        (now (left .exit))
-        (now (room .exit))
+        (stock (now (units .exit)) (now (left .exit)) (now (room .exit)))
         ⌝ }
 {
     if core_in(mask, j) == 0 {
         return;
     }
-    let d = least(left[t], room[j]);
+    let d = lesser(room[j], left[t]);
     place(units, left, room, t, j, d);
 }
 
@@ -227,16 +183,12 @@ fn place_first(
     left: &mut [u32; 64],
     room: &mut [u32; 16],
 )
-    requires { ⌜ FillReady frame cores (now budgets) (now masks) (now units) × (length (now left) ≡ 64) ⌝ }
-    ensures { λ _. ⌜
+    requires ready { ⌜ FillReady frame cores (now budgets) (now masks) (now units) ⌝ }
+    requires long { ⌜ length (now left) ≡ maxTasks ⌝ }
+    ensures filling { λ _. ⌜
         Filling
-        frame
-        cores
-        (now (budgets .entry))
-        (now (masks .entry))
-        (now (units .exit))
-        (now (left .exit))
-        (now (room .exit))
+        (demand frame cores (now (budgets .entry)) (now (masks .entry)))
+        (stock (now (units .exit)) (now (left .exit)) (now (room .exit)))
         ⌝ }
 {
     copy_budgets(budgets, left);

@@ -1,15 +1,14 @@
 // The search for a core with room: breadth first from the tasks that lack units. A task reaches the cores of its mask, a full core the
 // tasks with units on it. Each core is queued once, with the task through which it was reached; each task keeps the place in the queue
 // through which it was found.
-ghost use mathlib.Core.Path.{_≡_};
-ghost use mathlib.Core.List.{List};
-ghost use Prim.Native.Nat.{ℕ, _+_, _≤_, _<_};
+ghost use Prim.Native.Nat.{_+_, _≤_, _<_};
 ghost use lib.ListN.{length};
-ghost use Rattle.rules.specs.Sum.{sumTo};
+ghost use Rattle.rules.specs.Sizes.{maxCores, maxTasks};
 ghost use Rattle.rules.specs.Sets.{has};
 ghost use Rattle.rules.specs.Plan.{at};
-ghost use Rattle.planner.specs.Search.{Reached, Swept, Sized, Sight, nothing};
 ghost use Rattle.stretches.specs.Cell.{cell};
+ghost use Rattle.planner.specs.Stock.{stock};
+ghost use Rattle.planner.specs.Search.{Counted, Holds, Gathered, Reached, Met, Swept, Sized, Sight, trail, known, queued, nothing};
 use sets::core_in;
 use sets::task_in;
 use sets::with_core;
@@ -28,6 +27,14 @@ pub(crate) enum Outcome {
     Closed { tasks: u64, cores: u16 },
 }
 
+// A visit to a task: its mask, what it weighs, and the place of the queue through which it is found.
+pub(crate) struct Visit {
+    pub task: usize,
+    pub mask: u16,
+    pub weight: u32,
+    pub place: usize,
+}
+
 // Core j is queued for task t, if its mask holds it and no task has reached it.
 fn reach_one(
     cores: usize,
@@ -38,10 +45,13 @@ fn reach_one(
     seen: Seen,
     j: usize,
 ) -> Seen
-    requires { ⌜ (cores ≤ 16) × (j < cores) × (seen .tail ≡ sumTo cores (has (seen .cores))) ⌝ }
-    ensures { λ r. ⌜
-        Reached cores t mask (now (queue .entry)) (now (via .entry)) seen (now (queue .exit)) (now (via .exit)) r j (j + 1)
+    requires few { ⌜ cores ≤ maxCores ⌝ }
+    requires core { ⌜ j < cores ⌝ }
+    requires counted { ⌜ Counted cores seen ⌝ }
+    ensures reached { λ r. ⌜
+        Reached cores t mask (queued (now (queue .entry)) (now (via .entry)) seen) (queued (now (queue .exit)) (now (via .exit)) r)
         ⌝ }
+    ensures holds { λ r. ⌜ has mask j ≤ has (r .cores) j ⌝ }
 {
     let tail = seen.tail;
     let found = seen.cores;
@@ -69,10 +79,12 @@ fn reach(
     via: &mut [usize; 16],
     seen: Seen,
 ) -> Seen
-    requires { ⌜ (cores ≤ 16) × (seen .tail ≡ sumTo cores (has (seen .cores))) ⌝ }
-    ensures { λ r. ⌜
-        Reached cores t mask (now (queue .entry)) (now (via .entry)) seen (now (queue .exit)) (now (via .exit)) r 0 cores
+    requires few { ⌜ cores ≤ maxCores ⌝ }
+    requires counted { ⌜ Counted cores seen ⌝ }
+    ensures reached { λ r. ⌜
+        Reached cores t mask (queued (now (queue .entry)) (now (via .entry)) seen) (queued (now (queue .exit)) (now (via .exit)) r)
         ⌝ }
+    ensures holds { λ r. ⌜ Holds cores mask (r .cores) ⌝ }
 {
     let found = seen.cores;
     if (mask | found) == found {
@@ -87,58 +99,42 @@ fn reach(
     s
 }
 
-// Task t, if it weighs anything and was not found before, is found through the place p of the queue, and reaches its cores.
+// The task visited, if it weighs anything and was not found before, is found, and reaches its cores.
 fn find(
     cores: usize,
-    t: usize,
-    mask: u16,
-    weight: u32,
-    p: usize,
+    visit: Visit,
     queue: &mut [usize; 16],
     via: &mut [usize; 16],
     from: &mut [usize; 64],
     seen: Seen,
 ) -> Seen
-    requires { ⌜ (cores ≤ 16) × (t < 64) × (seen .tail ≡ sumTo cores (has (seen .cores))) ⌝ }
-    ensures { λ r. ⌜
-        ((n : ℕ)
-        (masks : List ℕ)
-        (w : ℕ → ℕ) →
-        at masks t ≡ mask →
-        w t ≡ weight →
-        t < n →
-        Swept
-        n
+    requires few { ⌜ cores ≤ maxCores ⌝ }
+    requires task { ⌜ visit .task < maxTasks ⌝ }
+    requires counted { ⌜ Counted cores seen ⌝ }
+    ensures met { λ r. ⌜
+        Met
         cores
-        masks
-        w
-        p
-        (now (queue .entry))
-        (now (via .entry))
-        (now (from .entry))
-        seen
-        (now (queue .exit))
-        (now (via .exit))
-        (now (from .exit))
-        r
-        t
-        (t + 1))
+        visit
+        (known (now (queue .entry)) (now (via .entry)) (now (from .entry)) seen)
+        (known (now (queue .exit)) (now (via .exit)) (now (from .exit)) r)
         ⌝ }
 {
     let tasks = seen.tasks;
+    let t = visit.task;
+    let weight = visit.weight;
     if weight == 0 {
         return seen;
     }
     if task_in(tasks, t) == 1 {
         return seen;
     }
-    from[t] = p;
+    from[t] = visit.place;
     let next = Seen {
         tail: seen.tail,
         tasks: with_task(tasks, t),
         cores: seen.cores,
     };
-    reach(cores, t, mask, queue, via, next)
+    reach(cores, t, visit.mask, queue, via, next)
 }
 
 // The starts: all tasks that lack units.
@@ -150,25 +146,18 @@ fn begin(
     via: &mut [usize; 16],
     from: &mut [usize; 64],
 ) -> Seen
-    requires { ⌜ (cores ≤ 16) × (length (now masks) ≤ 64) ⌝ }
-    ensures { λ r. ⌜
+    requires few { ⌜ cores ≤ maxCores ⌝ }
+    requires tasks { ⌜ length (now masks) ≤ maxTasks ⌝ }
+    ensures swept { λ r. ⌜
         Swept
-        (length (now (masks .entry)))
         cores
         (now (masks .entry))
         (at (now (left .entry)))
         0
-        (now (queue .entry))
-        (now (via .entry))
-        (now (from .entry))
-        nothing
-        (now (queue .exit))
-        (now (via .exit))
-        (now (from .exit))
-        r
-        0
-        (length (now (masks .entry)))
+        (known (now (queue .entry)) (now (via .entry)) (now (from .entry)) nothing)
+        (known (now (queue .exit)) (now (via .exit)) (now (from .exit)) r)
         ⌝ }
+    ensures gathered { λ r. ⌜ Gathered (length (now (masks .entry))) (at (now (left .entry))) (r .tasks) ⌝ }
 {
     let mut s = Seen {
         tail: 0,
@@ -177,7 +166,15 @@ fn begin(
     };
     let mut t = 0;
     while t < masks.len() {
-        s = find(cores, t, masks[t], left[t], 0, queue, via, from, s);
+        let mask = masks[t];
+        let weight = left[t];
+        let visit = Visit {
+            task: t,
+            mask,
+            weight,
+            place: 0,
+        };
+        s = find(cores, visit, queue, via, from, s);
         t += 1;
     }
     s
@@ -194,47 +191,37 @@ fn expand(
     from: &mut [usize; 64],
     seen: Seen,
 ) -> Seen
-    requires { ⌜
-        (cores ≤ 16)
-        × (length (now masks) ≤ 64)
-        × (p < 16)
-        × (at (now queue) p < 16)
-        × (seen .tail ≡ sumTo cores (has (seen .cores)))
-        ⌝ }
-    ensures { λ r. ⌜
+    requires few { ⌜ cores ≤ maxCores ⌝ }
+    requires tasks { ⌜ length (now masks) ≤ maxTasks ⌝ }
+    requires place { ⌜ p < maxCores ⌝ }
+    requires core { ⌜ at (now queue) p < maxCores ⌝ }
+    requires counted { ⌜ Counted cores seen ⌝ }
+    ensures swept { λ r. ⌜
         Swept
-        (length (now (masks .entry)))
         cores
         (now (masks .entry))
         (λ t. cell (now (units .entry)) t (at (now (queue .entry)) p))
         p
-        (now (queue .entry))
-        (now (via .entry))
-        (now (from .entry))
-        seen
-        (now (queue .exit))
-        (now (via .exit))
-        (now (from .exit))
-        r
-        0
-        (length (now (masks .entry)))
+        (known (now (queue .entry)) (now (via .entry)) (now (from .entry)) seen)
+        (known (now (queue .exit)) (now (via .exit)) (now (from .exit)) r)
+        ⌝ }
+    ensures gathered { λ r. ⌜
+        Gathered (length (now (masks .entry))) (λ t. cell (now (units .entry)) t (at (now (queue .entry)) p)) (r .tasks)
         ⌝ }
 {
     let core = queue[p];
     let mut s = seen;
     let mut t = 0;
     while t < masks.len() {
-        s = find(
-            cores,
-            t,
-            masks[t],
-            units[t * 16 + core],
-            p,
-            queue,
-            via,
-            from,
-            s,
-        );
+        let mask = masks[t];
+        let weight = units[t * 16 + core];
+        let visit = Visit {
+            task: t,
+            mask,
+            weight,
+            place: p,
+        };
+        s = find(cores, visit, queue, via, from, s);
         t += 1;
     }
     s
@@ -251,19 +238,16 @@ pub(crate) fn seek(
     via: &mut [usize; 16],
     from: &mut [usize; 64],
 ) -> Outcome
-    requires { ⌜ (cores ≤ 16) × (length (now masks) ≤ 64) × Sized (now queue) (now via) (now from) ⌝ }
-    ensures { λ r. ⌜
-        Sized (now (queue .exit)) (now (via .exit)) (now (from .exit))
-        × Sight
-        (length (now (masks .entry)))
+    requires few { ⌜ cores ≤ maxCores ⌝ }
+    requires tasks { ⌜ length (now masks) ≤ maxTasks ⌝ }
+    requires sized { ⌜ Sized (trail (now queue) (now via) (now from)) ⌝ }
+    ensures sized { λ _. ⌜ Sized (trail (now (queue .exit)) (now (via .exit)) (now (from .exit))) ⌝ }
+    ensures sight { λ r. ⌜
+        Sight
         cores
         (now (masks .entry))
-        (now (units .entry))
-        (now (left .entry))
-        (now (room .entry))
-        (now (queue .exit))
-        (now (via .exit))
-        (now (from .exit))
+        (stock (now (units .entry)) (now (left .entry)) (now (room .entry)))
+        (trail (now (queue .exit)) (now (via .exit)) (now (from .exit)))
         r
         ⌝ }
 {

@@ -1,11 +1,9 @@
 // The elementary steps: units are placed on a core, or taken from it, and what lacks and what room is left are kept beside them.
 ghost use mathlib.Core.Path.{_≡_};
-ghost use Prim.Native.Nat.{_+_, _*_, _≤_, _<_, min};
-ghost use Rattle.rules.specs.Plan.{at};
-ghost use Rattle.stretches.specs.Cell.{cell};
-ghost use Rattle.planner.specs.Fill.{raise, lower};
+ghost use Prim.Native.Nat.{min};
+ghost use Rattle.planner.specs.Stock.{PlaceFits, TakeFits, stock, placed, taken};
 
-pub(crate) fn least(a: u32, b: u32) -> u32
+pub(crate) fn lesser(a: u32, b: u32) -> u32
     ensures { λ r. ⌜ r ≡ min a b ⌝ }
 {
     if a < b { a } else { b }
@@ -20,11 +18,10 @@ pub(crate) fn place(
     j: usize,
     d: u32,
 )
-    requires { ⌜ (i < 64) × (j < 16) × (d ≤ at (now left) i) × (d ≤ at (now room) j) × (cell (now units) i j + d ≤ 1000000) ⌝ }
+    requires { ⌜ PlaceFits (stock (now units) (now left) (now room)) i j d ⌝ }
     ensures { λ _. ⌜
-        (now (units .exit) ≡ raise (now (units .entry)) (i * 16 + j) d)
-        × (now (left .exit) ≡ lower (now (left .entry)) i d)
-        × (now (room .exit) ≡ lower (now (room .entry)) j d)
+        stock (now (units .exit)) (now (left .exit)) (now (room .exit))
+        ≡ placed (stock (now (units .entry)) (now (left .entry)) (now (room .entry))) i j d
         ⌝ }
 {
     units[i * 16 + j] += d;
@@ -41,11 +38,10 @@ pub(crate) fn take(
     j: usize,
     d: u32,
 )
-    requires { ⌜ (i < 64) × (j < 16) × (d ≤ cell (now units) i j) × (at (now left) i + d ≤ 1000000) × (at (now room) j + d ≤ 1000000) ⌝ }
+    requires { ⌜ TakeFits (stock (now units) (now left) (now room)) i j d ⌝ }
     ensures { λ _. ⌜
-        (now (units .exit) ≡ lower (now (units .entry)) (i * 16 + j) d)
-        × (now (left .exit) ≡ raise (now (left .entry)) i d)
-        × (now (room .exit) ≡ raise (now (room .entry)) j d)
+        stock (now (units .exit)) (now (left .exit)) (now (room .exit))
+        ≡ taken (stock (now (units .entry)) (now (left .entry)) (now (room .entry))) i j d
         ⌝ }
 {
     units[i * 16 + j] -= d;

@@ -1,17 +1,18 @@
 -- The way back keeps a partial allocation; where no core has room, the excess decides. Assumes nothing.
 use mathlib.Core.Path.{_≡_, refl}
-use lib.ListN.{length}
 use native.Mathlib.Omega.{arith}
-use Rattle.planner.specs.Fill.{Filling}
-use Rattle.planner.specs.Search.{Way}
-use Rattle.planner.proofs.BackLaws.{way-small, back-ready, back-kept, last-ready, last-kept, back-small, way-paired}
-use Rattle.planner.proofs.EndLaws.{ended-whole, ended-short}
+use Rattle.planner.specs.Fill.{Filling, demand}
+use Rattle.planner.specs.Stock.{stock}
+use Rattle.planner.specs.Search.{WayBack, trail}
+use Rattle.planner.proofs.WayBackLaws.{way-small, back-less, back-fits, back-filling, back-way, back-left, last-fits, last-kept}
+use Rattle.planner.proofs.EndedLaws.{ended-whole, ended-short}
 use borrow.Author.Needs.{needs}
 use Rattle.planner.proofs.flow.advance.Statement.{statement}
 use Rattle.planner.proofs.flow.advance.Tie as tie
 
 abbrev Inv-loop : tie.InvT-loop
-Inv-loop frame cores budgets masks units₀ left₀ room₀ queue via from hit p₀ units left room p = Filling frame cores budgets masks units left room × Way (length budgets) cores masks units left room queue via from p × (left ≡ left₀)
+Inv-loop frame cores budgets masks units₀ left₀ room₀ queue via from hit p₀ units left room p =
+    Filling (demand frame cores budgets masks) (stock units left room) × WayBack cores masks (stock units left room) (trail queue via from) p × (left ≡ left₀)
 
 abbrev μ-loop : tie.MeasureT-loop
 μ-loop frame cores budgets masks units₀ left₀ room₀ queue via from hit p₀ units left room p = p
@@ -26,19 +27,24 @@ excess-requires : tie.Need-excess-requires Inv-loop μ-loop
 excess-requires c κs = search needs
 
 returns : tie.Need-returns Inv-loop μ-loop
-returns c = (c .before .before .before .before .before .seek .ensures .0, ended-whole (c .before .before .before .before .before .before .before .before .before .before .before .before .before .before .pre .0) (rw (c .before .before .before .found .given .1) at (c .before .before .before .before .before .seek .ensures .1)) (c .before .excess .ensures) (c .if1 .taken))
+returns c =
+    let sought = c .before .before .before .before .before in
+    let start = sought .before .before .before .before .before .before .before .before .before in
+    let stuck = rw (c .before .before .before .found .given .1) at (sought .seek .ensures .1) in
+    (search needs, ended-whole (start .pre .0) stuck (c .before .excess .ensures) (c .if1 .taken))
 
 enum-known-found-2 : tie.Need-enum-known-found-2 Inv-loop μ-loop
 enum-known-found-2 c = search needs
 
 loop-holds : tie.Need-loop-holds Inv-loop μ-loop
-loop-holds c = (c .before .before .before .before .before .before .before .before .before .before .before .before .pre .0, way-paired (c .before .before .before .before .before .before .before .before .before .before .before .before .pre .0) (rw (c .before .found2 .given .1) at (c .before .before .before .seek .ensures .1)), refl)
+loop-holds c =
+    (search needs, rw (c .before .found2 .given .1) at (c .before .before .before .seek .ensures .1), refl)
 
 mul-if2 : tie.Need-mul-if2 Inv-loop μ-loop
-mul-if2 c = omega (arith, way-small (c .loop .inv .0) (c .loop .inv .1))
+mul-if2 c = search (way-small, needs)
 
 element-copy-out-if2 : tie.Need-element-copy-out-if2 Inv-loop μ-loop
-element-copy-out-if2 c = omega (arith, way-small (c .loop .inv .0) (c .loop .inv .1))
+element-copy-out-if2 c = search (way-small, needs)
 
 mul-if2-2 : tie.Need-mul-if2-2 Inv-loop μ-loop
 mul-if2-2 c = omega (arith, way-small (c .before .loop .inv .0) (c .before .loop .inv .1))
@@ -47,22 +53,29 @@ element-copy-out-if2-2 : tie.Need-element-copy-out-if2-2 Inv-loop μ-loop
 element-copy-out-if2-2 c = omega (arith, way-small (c .before .loop .inv .0) (c .before .loop .inv .1))
 
 step-back-requires : tie.Need-step-back-requires Inv-loop μ-loop
-step-back-requires c κs = back-ready (c .before .before .before .before .before .before .before .before .before .loop .inv .0) (c .before .before .before .before .before .before .before .before .before .loop .inv .1) (c .before .before .before .before .before .before .if2 .taken)
+step-back-requires c κs = search (back-fits, needs)
 
 loop-less : tie.Need-loop-less Inv-loop μ-loop
-loop-less c = omega (arith, c .step-back .ensures .0, back-small (c .before .before .before .before .before .before .before .before .before .before .loop .inv .0) (c .before .before .before .before .before .before .before .before .before .before .loop .inv .1) (c .before .before .before .before .before .before .before .if2 .taken))
+loop-less c =
+    let test = c .before .before .before .before .before .before .before in
+    let inv = test .before .before .before .loop .inv in
+    omega (arith, c .step-back .ensures .0, back-less (inv .0) (inv .1) (test .if2 .taken))
 
 loop-again : tie.Need-loop-again Inv-loop μ-loop
-loop-again c = back-kept (c .before .before .before .before .before .before .before .before .before .before .loop .inv .0) (c .before .before .before .before .before .before .before .before .before .before .loop .inv .1) (c .before .before .before .before .before .before .before .if2 .taken) (c .before .before .before .before .before .before .before .before .before .before .loop .inv .2) (c .step-back .ensures .0) (c .step-back .ensures .1)
+loop-again c = (search (back-filling, needs), search (back-way, needs), search (back-left, needs))
 
-settle-requires : tie.Need-settle-requires Inv-loop μ-loop
-settle-requires c κs = last-ready (c .before .before .before .before .before .before .before .before .loop .inv .0) (c .before .before .before .before .before .before .before .before .loop .inv .1)
+place-last-requires : tie.Need-place-last-requires Inv-loop μ-loop
+place-last-requires c κs =
+    let inv = c .before .before .before .before .before .before .before .before .loop .inv in
+    (inv .1 .place, last-fits (inv .0) (inv .1))
 
 returns-2 : tie.Need-returns-2 Inv-loop μ-loop
-returns-2 c = (c .before .before .before .before .before .seek .ensures .0, ended-short (c .before .before .before .before .before .before .before .before .before .before .before .before .before .before .pre .0) (rw (c .before .before .before .found .given .1) at (c .before .before .before .before .before .seek .ensures .1)) (c .before .excess .ensures) (c .if1 .left))
+returns-2 c =
+    let stuck = rw (c .before .before .before .found .given .1) at (c .before .before .before .before .before .seek .ensures .1) in
+    (search needs, search (ended-short, stuck, needs))
 
 returns-3 : tie.Need-returns-3 Inv-loop μ-loop
-returns-3 c = (c .before .before .before .before .before .before .before .before .before .before .before .before .before .seek .ensures .0, last-kept (c .before .before .before .before .before .before .before .before .before .loop .inv .0) (c .before .before .before .before .before .before .before .before .before .loop .inv .1) (c .before .before .before .before .before .before .if2 .left) (c .before .before .before .before .before .before .before .before .before .loop .inv .2) (c .settle .ensures))
+returns-3 c = (search needs, search (last-kept, needs))
 
 pub advance-spec : {M : Type 1} → statement M
 advance-spec =
@@ -83,6 +96,6 @@ advance-spec =
     step-back-requires
     loop-less
     loop-again
-    settle-requires
+    place-last-requires
     returns-2
     returns-3)

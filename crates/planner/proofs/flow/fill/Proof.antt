@@ -1,10 +1,10 @@
 -- Each search that does not end leaves less lacking. Assumes nothing.
-use mathlib.Core.Path.{refl}
 use lib.ListN.{length}
 use Rattle.rules.specs.Sum.{sumTo}
 use Rattle.rules.specs.Plan.{at}
-use Rattle.planner.specs.Fill.{Filling}
-use Rattle.planner.specs.Search.{Sized}
+use Rattle.planner.specs.Fill.{Filling, demand}
+use Rattle.planner.specs.Stock.{stock}
+use Rattle.planner.specs.Search.{Sized, trail}
 use Rattle.planner.proofs.FillLaws.{sized-start}
 use borrow.Author.Needs.{needs}
 use Rattle.planner.proofs.flow.fill.Statement.{statement}
@@ -12,17 +12,17 @@ use Rattle.planner.proofs.flow.fill.Tie as tie
 
 abbrev Inv-loop : tie.InvT-loop
 Inv-loop frame cores budgets masks units₀ left₀ room₀ queue₀ via₀ from₀ units left room queue via from =
-    Filling frame cores budgets masks units left room × Sized queue via from
+    Filling (demand frame cores budgets masks) (stock units left room) × Sized (trail queue via from)
 
 abbrev μ-loop : tie.MeasureT-loop
 μ-loop frame cores budgets masks units₀ left₀ room₀ queue₀ via₀ from₀ units left room queue via from =
     sumTo (length budgets) (at left)
 
 place-first-requires : tie.Need-place-first-requires Inv-loop μ-loop
-place-first-requires c κs = (c .before .before .before .before .before .pre, refl)
+place-first-requires c κs = search needs
 
 loop-holds : tie.Need-loop-holds Inv-loop μ-loop
-loop-holds c = (c .place-first .ensures, sized-start)
+loop-holds c = search (sized-start, needs)
 
 advance-requires : tie.Need-advance-requires Inv-loop μ-loop
 advance-requires c κs = search needs

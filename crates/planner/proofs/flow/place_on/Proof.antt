@@ -1,5 +1,6 @@
 -- Outside the mask nothing changes; inside the call of place is the step. Assumes nothing.
 use Rattle.planner.proofs.FillLaws.{on-outside, on-inside}
+use Rattle.planner.proofs.StepBackLaws.{share-place}
 use borrow.Author.Needs.{needs}
 use Rattle.planner.proofs.flow.place_on.Statement.{statement}
 use Rattle.planner.proofs.flow.place_on.Tie as tie
@@ -8,28 +9,28 @@ core-in-requires : tie.Need-core-in-requires
 core-in-requires c κs = search needs
 
 returns : tie.Need-returns
-returns c = on-outside (c .before .core-in .ensures .0) (c .if1 .taken)
+returns c = search (on-outside, needs)
 
-mul-least : tie.Need-mul-least
-mul-least c = search needs
+mul-lesser : tie.Need-mul-lesser
+mul-lesser c = search needs
 
-element-copy-out-least : tie.Need-element-copy-out-least
-element-copy-out-least c = search needs
+element-copy-out-lesser : tie.Need-element-copy-out-lesser
+element-copy-out-lesser c = search needs
 
-mul-least-2 : tie.Need-mul-least-2
-mul-least-2 c = search needs
+mul-lesser-2 : tie.Need-mul-lesser-2
+mul-lesser-2 c = search needs
 
-element-copy-out-least-2 : tie.Need-element-copy-out-least-2
-element-copy-out-least-2 c = search needs
+element-copy-out-lesser-2 : tie.Need-element-copy-out-lesser-2
+element-copy-out-lesser-2 c = search needs
 
-least-requires : tie.Need-least-requires
-least-requires c κs = search needs
+lesser-requires : tie.Need-lesser-requires
+lesser-requires c κs = search needs
 
 place-requires : tie.Need-place-requires
-place-requires c κs = search needs
+place-requires c κs = search (share-place, needs)
 
 returns-2 : tie.Need-returns-2
-returns-2 c = on-inside (c .before .before .before .before .before .before .before .before .core-in .ensures .0) (c .before .before .before .before .before .before .before .if1 .left) (c .before .before .before .before .least .ensures) (c .place .ensures .0) (c .place .ensures .1) (c .place .ensures .2)
+returns-2 c = search (on-inside, needs)
 
 pub place-on-spec : {M : Type 1} → statement M
 place-on-spec =
@@ -37,10 +38,10 @@ place-on-spec =
     (tie.spec
     core-in-requires
     returns
-    mul-least
-    element-copy-out-least
-    mul-least-2
-    element-copy-out-least-2
-    least-requires
+    mul-lesser
+    element-copy-out-lesser
+    mul-lesser-2
+    element-copy-out-lesser-2
+    lesser-requires
     place-requires
     returns-2)

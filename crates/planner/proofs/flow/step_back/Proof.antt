@@ -1,6 +1,6 @@
 -- The calls of take and place are one shift. Assumes nothing.
 use mathlib.Core.Path.{refl}
-use Rattle.planner.proofs.ShiftLaws.{shift-place, shift-done}
+use Rattle.planner.proofs.StepBackLaws.{step-place, step-done}
 use borrow.Author.Needs.{needs}
 use Rattle.planner.proofs.flow.step_back.Statement.{statement}
 use Rattle.planner.proofs.flow.step_back.Tie as tie
@@ -29,35 +29,35 @@ mul-earlier c = search needs
 element-copy-out-earlier : tie.Need-element-copy-out-earlier
 element-copy-out-earlier c = search needs
 
-mul-least : tie.Need-mul-least
-mul-least c = search needs
+mul-lesser : tie.Need-mul-lesser
+mul-lesser c = search needs
 
-element-copy-out-least : tie.Need-element-copy-out-least
-element-copy-out-least c = search needs
+element-copy-out-lesser : tie.Need-element-copy-out-lesser
+element-copy-out-lesser c = search needs
 
-mul-least-2 : tie.Need-mul-least-2
-mul-least-2 c = search needs
+mul-lesser-2 : tie.Need-mul-lesser-2
+mul-lesser-2 c = search needs
 
-add-least : tie.Need-add-least
-add-least c = search needs
+add-lesser : tie.Need-add-lesser
+add-lesser c = search needs
 
-mul-least-3 : tie.Need-mul-least-3
-mul-least-3 c = search needs
+mul-lesser-3 : tie.Need-mul-lesser-3
+mul-lesser-3 c = search needs
 
-element-copy-out-least-2 : tie.Need-element-copy-out-least-2
-element-copy-out-least-2 c = search needs
+element-copy-out-lesser-2 : tie.Need-element-copy-out-lesser-2
+element-copy-out-lesser-2 c = search needs
 
-least-requires : tie.Need-least-requires
-least-requires c κs = search needs
+lesser-requires : tie.Need-lesser-requires
+lesser-requires c κs = search needs
 
 take-requires : tie.Need-take-requires
 take-requires c κs = search needs
 
 place-requires : tie.Need-place-requires
-place-requires c κs = shift-place (c .before .before .before .before .before .before .before .least .ensures) (c .before .before .before .take .ensures .0) (c .before .before .before .take .ensures .1) (c .before .before .before .take .ensures .2) (c .before .before .before .before .before .before .before .before .before .before .before .before .before .before .pre .1)
+place-requires c κs = search (step-place, needs)
 
 returns : tie.Need-returns
-returns c = (refl, shift-done (c .before .before .before .before .before .before .before .before .least .ensures) (c .before .before .before .before .take .ensures .0) (c .before .before .before .before .take .ensures .1) (c .before .before .before .before .take .ensures .2) (c .place .ensures .0) (c .place .ensures .1) (c .place .ensures .2))
+returns c = (refl, search (step-done, needs))
 
 pub step-back-spec : {M : Type 1} → statement M
 step-back-spec =
@@ -71,13 +71,13 @@ step-back-spec =
     element-copy-out-core
     mul-earlier
     element-copy-out-earlier
-    mul-least
-    element-copy-out-least
-    mul-least-2
-    add-least
-    mul-least-3
-    element-copy-out-least-2
-    least-requires
+    mul-lesser
+    element-copy-out-lesser
+    mul-lesser-2
+    add-lesser
+    mul-lesser-3
+    element-copy-out-lesser-2
+    lesser-requires
     take-requires
     place-requires
     returns)

@@ -1,17 +1,16 @@
 -- The loop finds one task after the other. Assumes nothing.
-use mathlib.Core.Path.{refl}
 use Prim.Native.Nat.{_-_, _≤_}
 use lib.ListN.{length}
 use Rattle.rules.specs.Plan.{at}
 use Rattle.stretches.specs.Cell.{cell}
-use Rattle.planner.specs.Search.{Swept}
-use Rattle.planner.proofs.SearchLaws.{sweep-start, swept-then, sweep-end}
+use Rattle.planner.specs.Search.{Swept, Gathered, known}
+use Rattle.planner.proofs.SearchLaws.{sweep-start, sweep-more, gather-none, gather-more, gather-all}
 use borrow.Author.Needs.{needs}
 use Rattle.planner.proofs.search.expand.Statement.{statement}
 use Rattle.planner.proofs.search.expand.Tie as tie
 
 abbrev Inv-loop : tie.InvT-loop
-Inv-loop cores masks units p queue₀ via₀ from₀ core s₀ t₀ queue via from s t = (t ≤ length masks) × Swept (length masks) cores masks (λ u. cell units u (at queue₀ p)) p queue₀ via₀ from₀ s₀ queue via from s 0 t
+Inv-loop cores masks units p queue₀ via₀ from₀ core s₀ t₀ queue via from s t = (t ≤ length masks) × Swept cores masks (λ u. cell units u (at queue₀ p)) p (known queue₀ via₀ from₀ s₀) (known queue via from s) × Gathered t (λ u. cell units u (at queue₀ p)) (s .tasks)
 
 abbrev μ-loop : tie.MeasureT-loop
 μ-loop cores masks units p queue₀ via₀ from₀ core s₀ t₀ queue via from s t = length masks - t
@@ -23,25 +22,25 @@ element-copy-out-core : tie.Need-element-copy-out-core Inv-loop μ-loop
 element-copy-out-core c = search needs
 
 loop-holds : tie.Need-loop-holds Inv-loop μ-loop
-loop-holds c = search (sweep-start, needs)
+loop-holds c = search (sweep-start, gather-none, needs)
 
-mul-find : tie.Need-mul-find Inv-loop μ-loop
-mul-find c = search needs
+mul-mask : tie.Need-mul-mask Inv-loop μ-loop
+mul-mask c = search needs
 
-shared-slice-read-find : tie.Need-shared-slice-read-find Inv-loop μ-loop
-shared-slice-read-find c = search needs
+shared-slice-read-mask : tie.Need-shared-slice-read-mask Inv-loop μ-loop
+shared-slice-read-mask c = search needs
 
-mul-find-2 : tie.Need-mul-find-2 Inv-loop μ-loop
-mul-find-2 c = search needs
+mul-weight : tie.Need-mul-weight Inv-loop μ-loop
+mul-weight c = search needs
 
-add-find : tie.Need-add-find Inv-loop μ-loop
-add-find c = search needs
+add-weight : tie.Need-add-weight Inv-loop μ-loop
+add-weight c = search needs
 
-mul-find-3 : tie.Need-mul-find-3 Inv-loop μ-loop
-mul-find-3 c = search needs
+mul-weight-2 : tie.Need-mul-weight-2 Inv-loop μ-loop
+mul-weight-2 c = search needs
 
-element-copy-out-find : tie.Need-element-copy-out-find Inv-loop μ-loop
-element-copy-out-find c = search needs
+element-copy-out-weight : tie.Need-element-copy-out-weight Inv-loop μ-loop
+element-copy-out-weight c = search needs
 
 find-requires : tie.Need-find-requires Inv-loop μ-loop
 find-requires c κs = search needs
@@ -53,14 +52,12 @@ loop-less : tie.Need-loop-less Inv-loop μ-loop
 loop-less c = search needs
 
 loop-again : tie.Need-loop-again Inv-loop μ-loop
-loop-again c = (
-  search needs,
-  swept-then (c .before .before .before .before .before .before .before .loop .inv .1)
-      (c .find .ensures (length (c .before .before .before .before .before .before .before .before .before .before .args .masks .now)) (c .before .before .before .before .before .before .before .before .before .before .args .masks .now) (λ u. cell (c .before .before .before .before .before .before .before .before .before .before .args .units .now) u (at (c .before .before .before .before .before .before .before .before .before .before .args .queue .now) (c .before .before .before .before .before .before .before .before .before .before .args .p))) refl refl (c .before .before .before .before .before .before .loop-test .taken)),
-)
+loop-again c =
+    let inv = c .before .before .before .before .before .before .before .loop .inv in
+    (search needs, search (sweep-more, needs), gather-more _ (c .find .ensures) (inv .2))
 
 returns : tie.Need-returns Inv-loop μ-loop
-returns c = search (sweep-end, needs)
+returns c = search (gather-all, needs)
 
 pub expand-spec : {M : Type 1} → statement M
 expand-spec =
@@ -71,12 +68,12 @@ expand-spec =
     mul-core
     element-copy-out-core
     loop-holds
-    mul-find
-    shared-slice-read-find
-    mul-find-2
-    add-find
-    mul-find-3
-    element-copy-out-find
+    mul-mask
+    shared-slice-read-mask
+    mul-weight
+    add-weight
+    mul-weight-2
+    element-copy-out-weight
     find-requires
     add-t
     loop-less

@@ -1,19 +1,17 @@
 -- Each way out is a law of the step: weighs nothing, found already, found now. Assumes nothing.
-use mathlib.Core.Path.{_∙_}
-use Rattle.sets.proofs.Members.{joined-in}
 use Rattle.planner.proofs.SearchLaws.{find-nothing, find-known, find-new}
 use borrow.Author.Needs.{needs}
 use Rattle.planner.proofs.search.find.Statement.{statement}
 use Rattle.planner.proofs.search.find.Tie as tie
 
 returns : tie.Need-returns
-returns c = λ n masks w d e l. find-nothing (c .before .args .t) (c .before .pre .2) e (c .if1 .taken)
+returns c = search (find-nothing, needs)
 
 task-in-requires : tie.Need-task-in-requires
 task-in-requires c κs = search needs
 
 returns-2 : tie.Need-returns-2
-returns-2 c = λ n masks w d e l. find-known (c .before .before .before .args .t) (c .before .before .before .pre .2) (c .before .task-in .ensures .0) (c .if2 .taken)
+returns-2 c = search (find-known, needs)
 
 mul-from : tie.Need-mul-from
 mul-from c = search needs
@@ -28,8 +26,7 @@ reach-requires : tie.Need-reach-requires
 reach-requires c κs = search needs
 
 returns-3 : tie.Need-returns-3
-returns-3 c = λ n masks w d e l.
-    find-new (c .before .before .before .before .before .before .before .args .t) (c .before .before .before .before .before .before .before .pre .2) d e l (c .before .before .before .before .before .before .if1 .left) (c .before .before .before .before .before .task-in .ensures .0) (c .before .before .before .before .before .task-in .ensures .1) (c .before .before .before .before .if2 .left) (c .before .before .before .with-task .ensures ∙ joined-in 64 _ _ (c .before .before .before .before .before .before .before .pre .1)) (c .reach .ensures)
+returns-3 c = search (find-new, needs)
 
 pub find-spec : {M : Type 1} → statement M
 find-spec =

@@ -1,15 +1,15 @@
 -- The loop keeps what was sought; each way out is a law of it. Assumes nothing.
 use Prim.Native.Nat.{_-_}
-use lib.ListN.{length}
 use native.Mathlib.Omega.{arith}
-use Rattle.planner.specs.Search.{Sought}
-use Rattle.planner.proofs.SeekLaws.{found-sized, place-small, sought-start, sought-more, sought-room, sought-end}
+use Rattle.planner.specs.Stock.{stock}
+use Rattle.planner.specs.Search.{Sought, known}
+use Rattle.planner.proofs.SeekLaws.{place-small, sought-start, sought-more, sought-room, sought-end}
 use borrow.Author.Needs.{needs}
 use Rattle.planner.proofs.search.seek.Statement.{statement}
 use Rattle.planner.proofs.search.seek.Tie as tie
 
 abbrev Inv-loop : tie.InvT-loop
-Inv-loop cores masks units left room queue₀ via₀ from₀ s₀ head₀ queue via from s head = Sought (length masks) cores masks units left room queue via from head s
+Inv-loop cores masks units left room queue₀ via₀ from₀ s₀ head₀ queue via from s head = Sought cores masks (stock units left room) head (known queue via from s)
 
 abbrev μ-loop : tie.MeasureT-loop
 μ-loop cores masks units left room queue₀ via₀ from₀ s₀ head₀ queue via from s head = 16 - head
@@ -33,22 +33,29 @@ element-copy-out-if2 : tie.Need-element-copy-out-if2 Inv-loop μ-loop
 element-copy-out-if2 c = omega (arith, place-small (c .before .before .before .loop .inv) (c .before .if1 .taken))
 
 returns : tie.Need-returns Inv-loop μ-loop
-returns c = (found-sized (c .before .before .before .before .before .loop .inv .found), sought-room (c .before .before .before .before .before .loop .inv) (c .before .before .before .if1 .taken) (c .if2 .taken))
+returns c = (search needs, search (sought-room, needs))
 
 expand-requires : tie.Need-expand-requires Inv-loop μ-loop
-expand-requires c κs = (c .before .before .before .before .before .before .before .before .before .before .before .before .before .before .pre .0, c .before .before .before .before .before .before .before .before .before .before .before .before .before .before .pre .1, place-small (c .before .before .before .before .before .before .before .before .loop .inv) (c .before .before .before .before .before .before .if1 .taken) .0, place-small (c .before .before .before .before .before .before .before .before .loop .inv) (c .before .before .before .before .before .before .if1 .taken) .1, c .before .before .before .before .before .before .before .before .loop .inv .found .counted)
+expand-requires c κs =
+    let test = c .before .before .before .before .before .before in
+    let small = place-small (test .before .before .loop .inv) (test .if1 .taken) in
+    (search needs, (search needs, (small .0, (small .1, search needs))))
 
 add-head : tie.Need-add-head Inv-loop μ-loop
-add-head c = omega (arith, place-small (c .before .before .before .before .before .before .before .before .before .loop .inv) (c .before .before .before .before .before .before .before .if1 .taken))
+add-head c =
+    let test = c .before .before .before .before .before .before .before in
+    omega (arith, place-small (test .before .before .loop .inv) (test .if1 .taken))
 
 loop-less : tie.Need-loop-less Inv-loop μ-loop
-loop-less c = omega (arith, place-small (c .before .before .before .before .before .before .before .before .before .loop .inv) (c .before .before .before .before .before .before .before .if1 .taken))
+loop-less c =
+    let test = c .before .before .before .before .before .before .before in
+    omega (arith, place-small (test .before .before .loop .inv) (test .if1 .taken))
 
 loop-again : tie.Need-loop-again Inv-loop μ-loop
-loop-again c = sought-more (c .before .before .before .before .before .before .before .before .before .loop .inv) (c .before .before .before .before .before .before .before .if1 .taken) (c .before .before .before .before .if2 .left) (c .expand .ensures)
+loop-again c = search (sought-more, needs)
 
 returns-2 : tie.Need-returns-2 Inv-loop μ-loop
-returns-2 c = (found-sized (c .before .before .loop .inv .found), sought-end (c .before .before .loop .inv) (c .if1 .left))
+returns-2 c = (search needs, sought-end (c .before .before .loop .inv) (c .if1 .left))
 
 pub seek-spec : {M : Type 1} → statement M
 seek-spec =

@@ -1,6 +1,6 @@
 -- The three stores are the three definitions. Assumes nothing.
 use mathlib.Core.Path.{refl}
-use Rattle.planner.specs.Fill.{raise, lower}
+use Rattle.planner.specs.Stock.{raise, lower}
 use borrow.Author.Needs.{needs}
 use Rattle.planner.proofs.steps.place.Statement.{statement}
 use Rattle.planner.proofs.steps.place.Tie as tie
@@ -49,7 +49,7 @@ element-write-room c = search needs
 
 returns : tie.Need-returns
 unfolding raise lower
-returns c = (refl, refl, refl)
+returns c = refl
 
 pub place-spec : {M : Type 1} → statement M
 place-spec =

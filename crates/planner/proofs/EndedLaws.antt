@@ -1,10 +1,14 @@
--- The search found no core with room: the excess of what it found says whether all budgets have their units, or which group lacks most.
+-- For advance of flow.rt, where the search ended with no core that has room: the excess of what it found says whether all budgets have
+-- their units, or which group lacks most.
 -- Assumes nothing.
 use mathlib.Core.Path.{_≡_, sym, _∙_, ap, subst}
 use mathlib.Core.List.{List}
 use Prim.Native.Nat.{ℕ, _+_, _-_, _*_, _^_, _≤_, _<_}
+use native.Mathlib.Nat.{le-trans}
+use native.Mathlib.Decide.{decLt}
 use native.Mathlib.Omega.{arith}
 use lib.ListN.{length, List·getD-eq-default}
+use Rattle.rules.specs.Allocation.{limitOf}
 use Rattle.rules.specs.Sum.{sumTo}
 use Rattle.rules.specs.Sets.{has}
 use Rattle.rules.specs.Plan.{at}
@@ -13,7 +17,8 @@ use Rattle.sums.proofs.Sum.{sum-split, sum-zero}
 use Rattle.sums.proofs.Sets.{has-above, has-none}
 use Rattle.stretches.specs.Cell.{cell}
 use Rattle.overload.specs.Stuck.{Partial, Stuck}
-use Rattle.planner.specs.Fill.{Filling}
+use Rattle.planner.specs.Fill.{Filling, demand}
+use Rattle.planner.specs.Stock.{Stock}
 use Rattle.planner.specs.Filled.{WholeBy, ShortBy}
 use Rattle.overload.proofs.NoRoom.{part-out, found-cores, found-excess, found-exceeds, found-smallest, found-budgets, nothing-lacks}
 
@@ -33,23 +38,20 @@ capacity-all m c limit h l =
     rest : {a b : ℕ} → b ≡ 0 → a + b ≡ a
     rest e = omega arith
 
-module _ {F m : ℕ} {budgets masks units left room : List ℕ} (f : Filling F m budgets masks units left room) where
-  pub partial-of : Partial (length budgets) m (λ j. F) (at budgets) (at masks) (cell units) (at left) (at room)
-  partial-of = record { inside = λ i l j k z. f .inside i j (small k) z; row = f .row; column = f .column }
-    where
-      small : {j : ℕ} → j < m → j < 16
-      small k = omega (arith, f .given .cores)
+module _ {F m : ℕ} {budgets masks : List ℕ} {s : Stock} (f : Filling (demand F m budgets masks) s) where
+  pub partial-of : Partial (length budgets) m (limitOf F) (at budgets) (at masks) (cell (s .units)) (at (s .left)) (at (s .room))
+  partial-of = record { inside = λ i l j k z. f .inside i j (le-trans k (f .given .cores)) z; row = f .row; column = f .column }
 
-  module _ {g c : ℕ} (s : Stuck (length masks) m (at masks) (cell units) (at left) (at room) g c) where
-    stuck : Stuck (length budgets) m (at masks) (cell units) (at left) (at room) g c
-    stuck = subst (λ (n : ℕ). Stuck n m (at masks) (cell units) (at left) (at room) g c) (f .given .paired) s
+  module _ {g c : ℕ} (k : Stuck (length masks) m (at masks) (cell (s .units)) (at (s .left)) (at (s .room)) g c) where
+    stuck : Stuck (length budgets) m (at masks) (cell (s .units)) (at (s .left)) (at (s .room)) g c
+    stuck = subst (λ (n : ℕ). Stuck n m (at masks) (cell (s .units)) (at (s .left)) (at (s .room)) g c) (f .given .paired) k
 
-    excess-left : groupBudget (length budgets) (at budgets) g - capacity 16 (λ j. F) c ≡ sumTo (length budgets) (at left)
+    excess-left : groupBudget (length budgets) (at budgets) g - capacity 16 (limitOf F) c ≡ sumTo (length budgets) (at (s .left))
     excess-left =
         omega
-        (arith, found-excess partial-of stuck (f .given .narrow), capacity-all m c (λ j. F) (f .given .cores) (s .cores))
+        (arith, found-excess partial-of stuck (f .given .narrow), capacity-all m c (limitOf F) (f .given .cores) (k .cores))
 
-    pub ended-whole : {e : ℕ} → e ≡ groupBudget (length budgets) (at budgets) g - capacity 16 (λ j. F) c → e ≡ 0 → WholeBy F m budgets masks units
+    pub ended-whole : {e : ℕ} → e ≡ groupBudget (length budgets) (at budgets) g - capacity 16 (limitOf F) c → e ≡ 0 → WholeBy F m budgets masks (s .units)
     ended-whole d z =
         record {
           long = f .units-long;
@@ -63,15 +65,12 @@ module _ {F m : ℕ} {budgets masks units left room : List ℕ} (f : Filling F m
 
         outside : (i j : ℕ) → m ≤ j → has (at masks i) j ≡ 0
         outside i j l =
-            elim (native.Mathlib.Decide.decLt i (length budgets)) [
+            elim (decLt i (length budgets)) [
               | yes k ↦ has-above m (f .given .narrow i k) l
-              | no k ↦ ap (λ (v : ℕ). has v j) (List·getD-eq-default masks 0 (past (turn k))) ∙ has-none j
+              | no k ↦ ap (λ (v : ℕ). has v j) (List·getD-eq-default masks 0 (past {i = i} (omega arith))) ∙ has-none j
             ]
-          where
-            turn : {a b : ℕ} → (a < b → ⊥) → b ≤ a
-            turn k = omega arith
 
-    pub ended-short : {e : ℕ} → e ≡ groupBudget (length budgets) (at budgets) g - capacity 16 (λ j. F) c → (e ≡ 0 → ⊥) → ShortBy F m budgets masks g c
+    pub ended-short : {e : ℕ} → e ≡ groupBudget (length budgets) (at budgets) g - capacity 16 (limitOf F) c → (e ≡ 0 → ⊥) → ShortBy F m budgets masks g c
     ended-short d ne =
         record {
           exceeds = found-exceeds partial-of stuck (f .given .narrow) (omega (arith, excess-left));

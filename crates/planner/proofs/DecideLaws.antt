@@ -1,6 +1,6 @@
 -- The laws by which the parts of the planner make up its answer.
 -- Assumes nothing.
-use mathlib.Core.Path.{_≡_, refl, sym, ap, subst}
+use mathlib.Core.Path.{_≡_, refl, sym, _∙_, ap, subst}
 use mathlib.Core.List.{List, _++_}
 use Prim.Native.Nat.{ℕ, _*_, _/_, _≤_, _<_}
 use native.Mathlib.Omega.{arith}
@@ -29,6 +29,9 @@ use Rattle.planner.specs.Plan.{Settled}
 use Rattle.planner.proofs.FillLaws.{zeros}
 use Rattle.forest.proofs.Forest.{used-at-most, peeled-has-no-loop}
 use Rattle.forest.proofs.Unlooped.{kept-allocation}
+use Rattle.tests.specs.Verdict.{verdictOf}
+use Rattle.tests.specs.declared.Verdict.{Verdict}
+use Rattle.tests.specs.declared.Verdict.the-variants.{Refused, Passed}
 use Rattle.tests.proofs.PassedLaws.{passed-ready}
 
 piecesOf : Laid → ℕ
@@ -86,14 +89,16 @@ module _ (F m : ℕ) (budgets masks table : List ℕ) (d : Admitted F m budgets 
       (record { exceeds = s .exceeds; smallest = s .smallest; refusal = record { answer = ap (Overloaded g) (s .cores); pieces = refl; kept = refl } })
 
 module _ (F m : ℕ) (budgets masks before : List ℕ) where
-  pub answer-refused : (a : Answer) → refused a ≡ tested F m budgets masks before → PlanAnswer F m budgets masks before (record { answer = a; pieces = 0 }) before
-  answer-refused a e =
-      subst (λ (t : Tested). PlanAnswerAt t F m budgets masks before (record { answer = a; pieces = 0 }) before) e
+  -- the verdict of the tests, by its case
+  pub answer-refused : {v : Verdict} {a : Answer} → v ≡ Refused a → verdictOf v ≡ tested F m budgets masks before
+      → PlanAnswer F m budgets masks before (record { answer = a; pieces = 0 }) before
+  answer-refused {a = a} e h =
+      subst (λ (t : Tested). PlanAnswerAt t F m budgets masks before (record { answer = a; pieces = 0 }) before) (sym (ap verdictOf e) ∙ h)
       (record { answer = refl; pieces = refl; kept = refl })
 
-  pub answer-ready : passed ≡ tested F m budgets masks before → Admitted F m budgets masks before
-  answer-ready e = passed-ready F m budgets masks before (sym e)
+  pub answer-ready : {v : Verdict} → v ≡ Passed → verdictOf v ≡ tested F m budgets masks before → Admitted F m budgets masks before
+  answer-ready e h = passed-ready F m budgets masks before (sym h ∙ ap verdictOf e)
 
-  pub answer-decided : (r : Planned) (after : List ℕ) → passed ≡ tested F m budgets masks before → Decided F m budgets masks before r after
-      → PlanAnswer F m budgets masks before r after
-  answer-decided r after e h = subst (λ (t : Tested). PlanAnswerAt t F m budgets masks before r after) e h
+  pub answer-decided : {v : Verdict} (r : Planned) (after : List ℕ) → v ≡ Passed → verdictOf v ≡ tested F m budgets masks before
+      → Decided F m budgets masks before r after → PlanAnswer F m budgets masks before r after
+  answer-decided r after e h d = subst (λ (t : Tested). PlanAnswerAt t F m budgets masks before r after) (sym (ap verdictOf e) ∙ h) d

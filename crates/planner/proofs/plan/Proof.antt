@@ -14,13 +14,13 @@ enum-told : tie.Need-enum-told
 enum-told c = search needs
 
 decide-requires : tie.Need-decide-requires
-decide-requires c κs = answer-ready _ _ _ _ _ (rw (c .before .enum-told .given .1) at (c .before .before .before .test-plan .ensures))
+decide-requires c κs = answer-ready _ _ _ _ _ (c .before .enum-told .given .1) (c .before .before .before .test-plan .ensures)
 
 same-length : tie.Need-same-length
 same-length c = search needs
 
 returns : tie.Need-returns
-returns c = answer-refused _ _ _ _ _ _ (rw (c .before .verdict .given .1) at (c .before .before .before .test-plan .ensures))
+returns c = answer-refused _ _ _ _ _ (c .before .verdict .given .1) (c .before .before .before .test-plan .ensures)
 
 same-length-2 : tie.Need-same-length-2
 same-length-2 c = search needs
@@ -28,7 +28,7 @@ same-length-2 c = search needs
 returns-2 : tie.Need-returns-2
 returns-2 c =
     let d = c .before .before in
-    answer-decided _ _ _ _ _ _ _ (rw (d .before .before .enum-told .given .1) at (d .before .before .before .before .test-plan .ensures)) (d .decide .ensures)
+    answer-decided _ _ _ _ _ _ _ (d .before .before .enum-told .given .1) (d .before .before .before .before .test-plan .ensures) (d .decide .ensures)
 
 pub plan-spec : {M : Type 1} → statement M
 plan-spec =

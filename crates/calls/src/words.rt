@@ -15,23 +15,23 @@ pub(crate) fn count_at(line: &[u8], at: usize) -> usize
     (field_at(line, at, 2) % 65536) as usize
 }
 
-// `count` words from byte `at` on, at the front of the list.
-pub(crate) fn read_words(line: &[u8], at: usize, count: usize, words: &mut [u32])
-    requires { ⌜ (2 * (at + 4 * count) ≤ length (now line)) × (count ≤ length (now words)) ⌝ }
+// Fills the list with the words from byte `at` on.
+pub(crate) fn read_words(line: &[u8], at: usize, words: &mut [u32])
+    requires { ⌜ at + 4 * length (now words) ≤ 99002 ⌝ }
 {
     let mut i = 0;
-    while i < count {
+    while i < words.len() {
         words[i] = word_at(line, at + 4 * i);
         i += 1;
     }
 }
 
-// `count` releases from byte `at` on.
-pub(crate) fn read_releases(line: &[u8], at: usize, count: usize, releases: &mut [u64])
-    requires { ⌜ (2 * (at + 8 * count) ≤ length (now line)) × (count ≤ length (now releases)) ⌝ }
+// Fills the list with the releases from byte `at` on.
+pub(crate) fn read_releases(line: &[u8], at: usize, releases: &mut [u64])
+    requires { ⌜ at + 8 * length (now releases) ≤ 99002 ⌝ }
 {
     let mut i = 0;
-    while i < count {
+    while i < releases.len() {
         releases[i] = field_at(line, at + 8 * i, 8);
         i += 1;
     }

@@ -1,17 +1,17 @@
 -- `calls::words::read_releases` meets its contract. The measure is how many releases are left.
 -- Assumes nothing.
 use mathlib.Core.Path.{_≡_}
-use Prim.Native.Nat.{_≤_, _-_}
+use Prim.Native.Nat.{_-_}
 use lib.ListN.{length}
 use borrow.Author.Needs.{needs}
 use Rattle.calls.proofs.words.read_releases.Statement.{statement}
 use Rattle.calls.proofs.words.read_releases.Tie as tie
 
 abbrev Inv-loop : tie.InvT-loop
-Inv-loop line at count releases₀ i₀ releases i = (i ≤ count) × (length releases ≡ length releases₀)
+Inv-loop line at releases₀ i₀ releases i = length releases ≡ length releases₀
 
 abbrev μ-loop : tie.MeasureT-loop
-μ-loop line at count releases₀ i₀ releases i = count - i
+μ-loop line at releases₀ i₀ releases i = length releases₀ - i
 
 loop-holds : tie.Need-loop-holds Inv-loop μ-loop
 loop-holds c = search needs

@@ -1,17 +1,17 @@
 -- `calls::words::read_words` meets its contract. The measure is how many words are left.
 -- Assumes nothing.
 use mathlib.Core.Path.{_≡_}
-use Prim.Native.Nat.{_≤_, _-_}
+use Prim.Native.Nat.{_-_}
 use lib.ListN.{length}
 use borrow.Author.Needs.{needs}
 use Rattle.calls.proofs.words.read_words.Statement.{statement}
 use Rattle.calls.proofs.words.read_words.Tie as tie
 
 abbrev Inv-loop : tie.InvT-loop
-Inv-loop line at count words₀ i₀ words i = (i ≤ count) × (length words ≡ length words₀)
+Inv-loop line at words₀ i₀ words i = length words ≡ length words₀
 
 abbrev μ-loop : tie.MeasureT-loop
-μ-loop line at count words₀ i₀ words i = count - i
+μ-loop line at words₀ i₀ words i = length words₀ - i
 
 loop-holds : tie.Need-loop-holds Inv-loop μ-loop
 loop-holds c = search needs

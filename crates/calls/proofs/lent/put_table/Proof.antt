@@ -10,7 +10,7 @@ sub-count : tie.Need-sub-count
 sub-count c = search needs
 
 array-borrow-prefix-words : tie.Need-array-borrow-prefix-words
-array-borrow-prefix-words c = search needs
+array-borrow-prefix-words c = omega arith
 
 slice-aggregate-ask-table : tie.Need-slice-aggregate-ask-table
 slice-aggregate-ask-table c = simp (length-take, length-replicate) (omega arith)

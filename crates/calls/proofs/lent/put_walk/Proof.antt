@@ -18,7 +18,7 @@ slice-aggregate-put-answer : tie.Need-slice-aggregate-put-answer
 slice-aggregate-put-answer c = search needs
 
 put-answer-requires : tie.Need-put-answer-requires
-put-answer-requires c κs = search needs
+put-answer-requires c κs = omega arith
 
 same-length : tie.Need-same-length
 same-length c = search needs

@@ -10,25 +10,25 @@ count-at-requires : tie.Need-count-at-requires
 count-at-requires c κs = search needs
 
 array-borrow-prefix-words : tie.Need-array-borrow-prefix-words
-array-borrow-prefix-words c = search needs
+array-borrow-prefix-words c = omega arith
 
 slice-aggregate-walk-lists : tie.Need-slice-aggregate-walk-lists
 slice-aggregate-walk-lists c = simp (length-take, length-replicate) (omega arith)
 
 array-borrow-prefix-releases : tie.Need-array-borrow-prefix-releases
-array-borrow-prefix-releases c = search needs
+array-borrow-prefix-releases c = omega arith
 
 slice-aggregate-walk-lists-2 : tie.Need-slice-aggregate-walk-lists-2
 slice-aggregate-walk-lists-2 c = simp (length-take, length-replicate) (omega arith)
 
 array-borrow-prefix-units : tie.Need-array-borrow-prefix-units
-array-borrow-prefix-units c = search needs
+array-borrow-prefix-units c = omega arith
 
 slice-aggregate-walk-lists-3 : tie.Need-slice-aggregate-walk-lists-3
 slice-aggregate-walk-lists-3 c = simp (length-take, length-replicate) (omega arith)
 
 slice-relend-prefix-walk-lists : tie.Need-slice-relend-prefix-walk-lists
-slice-relend-prefix-walk-lists c = search needs
+slice-relend-prefix-walk-lists c = omega arith
 
 slice-aggregate-walk-lists-4 : tie.Need-slice-aggregate-walk-lists-4
 slice-aggregate-walk-lists-4 c = simp length-take (omega arith)

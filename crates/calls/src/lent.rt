@@ -28,14 +28,14 @@ const RELEASE: usize = 16;
 // The most that a field of 2 bytes can count.
 const MOST_FINISHES: usize = 65535;
 
-// The table check or the move count: "call (1), F (4 bytes), m (4), then the table's words".
-fn ask_table(line: &[u8], moves: bool, words: &mut [u32]) -> Counted
+// The table check, which shows no number, or the move count, which shows one: "call (1), F (4 bytes), m (4), then the table's words".
+fn ask_table(line: &[u8], shown: usize, words: &mut [u32]) -> Counted
     requires { ⌜ length (now words) ≤ 12373 ⌝ }
 {
     read_words(line, 9, words);
     let frame = word_at(line, 1);
     let cores = word_at(line, 5);
-    if moves {
+    if shown == 1 {
         return table::count_moves(frame, cores, words);
     }
     Counted {
@@ -44,14 +44,14 @@ fn ask_table(line: &[u8], moves: bool, words: &mut [u32]) -> Counted
     }
 }
 
-// The answer line of either. A check shows no number, a count one.
-fn put_table(line: &[u8], moves: bool, shown: usize, out: &mut [u8]) -> usize
+// The answer line of either.
+fn put_table(line: &[u8], shown: usize, out: &mut [u8]) -> usize
     requires { ⌜ (18 ≤ length (now line)) × (length (now line) ≤ 99002) × (shown ≤ 1) ⌝ }
     ensures { λ r. ⌜ r ≤ 99002 ⌝ }
 {
     let count = (line.len() - TABLE_HEAD) / WORD;
     let mut words = [0u32; (MAX_DIGITS - TABLE_HEAD) / WORD];
-    let found = ask_table(line, moves, &mut words[..count]);
+    let found = ask_table(line, shown, &mut words[..count]);
     let answer = found.answer;
     put_answer(out, answer, &[found.moves as u64], shown, 4)
 }
@@ -100,13 +100,19 @@ fn walk_room(line: &[u8], n: usize, jobs: usize, asked: usize, finishes: &mut [u
 }
 
 // The answer line of a walk whose counts say the line's length.
-fn put_walk(line: &[u8], n: usize, jobs: usize, asked: usize, out: &mut [u8]) -> usize
-    requires { ⌜ 42 + 8 * n + 16 * jobs + 8 * asked ≤ 99002 ⌝ }
+fn put_walk(
+    line: &[u8],
+    n: usize,
+    jobs: usize,
+    asked: usize,
+    finishes: &mut [u64],
+    out: &mut [u8],
+) -> usize
+    requires { ⌜ (42 + 8 * n + 16 * jobs + 8 * asked ≤ 99002) × (65535 ≤ length (now finishes)) ⌝ }
     ensures { λ r. ⌜ r ≤ 99002 ⌝ }
 {
-    let mut finishes = [0u64; MOST_FINISHES];
-    let answer = walk_room(line, n, jobs, asked, &mut finishes);
-    put_answer(out, answer, &finishes, jobs, 8)
+    let answer = walk_room(line, n, jobs, asked, finishes);
+    put_answer(out, answer, finishes, jobs, 8)
 }
 
 // The walk: "task (4), word count (2), release count (2), unit count (2), finish room (2)" follow F and m.
@@ -120,7 +126,8 @@ fn walk(line: &[u8], out: &mut [u8]) -> usize
     if WALK_HEAD + WORD * n + RELEASE * jobs + WORD * asked != line.len() {
         return put_bad_line(out);
     }
-    put_walk(line, n, jobs, asked, out)
+    let mut finishes = [0u64; MOST_FINISHES];
+    put_walk(line, n, jobs, asked, &mut finishes, out)
 }
 
 // Which call a line asks for. Every call's line has a byte and whole words of 8 digits; 0 is no call.
@@ -145,8 +152,8 @@ pub(crate) fn answer_line(line: &[u8], out: &mut [u8]) -> usize
         return put_bad_line(out);
     }
     match call_of(line) {
-        1 => put_table(line, false, 0, out),
-        2 => put_table(line, true, 1, out),
+        1 => put_table(line, 0, out),
+        2 => put_table(line, 1, out),
         3 => walk(line, out),
         _ => put_bad_line(out),
     }

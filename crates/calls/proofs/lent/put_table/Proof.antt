@@ -1,8 +1,8 @@
 -- `calls::lent::put_table` meets its contract.
 -- Assumes nothing.
 use native.Mathlib.Omega.{arith}
-use lib.ListN.{length-replicate, length-take}
 use borrow.Author.Needs.{needs}
+use Rattle.calls.proofs.Zeros.{front-count, front-within}
 use Rattle.calls.proofs.lent.put_table.Statement.{statement}
 use Rattle.calls.proofs.lent.put_table.Tie as tie
 
@@ -13,10 +13,10 @@ array-borrow-prefix-words : tie.Need-array-borrow-prefix-words
 array-borrow-prefix-words c = omega arith
 
 slice-aggregate-ask-table : tie.Need-slice-aggregate-ask-table
-slice-aggregate-ask-table c = simp (length-take, length-replicate) (omega arith)
+slice-aggregate-ask-table c = front-count _ 12373 (omega arith)
 
 ask-table-requires : tie.Need-ask-table-requires
-ask-table-requires c κs = simp (length-take, length-replicate) (omega arith)
+ask-table-requires c κs = search front-within
 
 slice-aggregate-put-answer : tie.Need-slice-aggregate-put-answer
 slice-aggregate-put-answer c = search needs

@@ -66,10 +66,8 @@ fn walk_lists(
 ) -> Answer
     requires { ⌜ 42 + 8 * length (now words) + 16 * length (now releases) + 8 * length (now units) ≤ 99002 ⌝ }
 {
-    let second = 21 + 4 * words.len();
-    let third = second + 8 * releases.len();
-    read_words(line, 21, words);
-    read_releases(line, second, releases);
+    let second = read_words(line, 21, words);
+    let third = read_releases(line, second, releases);
     read_words(line, third, units);
     walker::walk(
         word_at(line, 1),

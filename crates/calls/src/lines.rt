@@ -24,9 +24,8 @@ fn next(chunk: &[u8], at: usize, line: &mut [u8], len: usize, out: &mut [u8], us
     ensures { λ r. ⌜ (r .len ≤ length (now (line .entry))) × (r .used ≤ used + 99003) × (r .taken ≤ length (now (chunk .entry))) × (at + 1 ≤ r .taken) ⌝ }
 {
     let taken = stream::take_line(chunk, at, line, len);
-    let kept = taken.len;
     if taken.whole {
-        let end = answer(line, kept, out, used);
+        let end = answer(line, taken.len, out, used);
         return Stage {
             taken: taken.at,
             len: 0,
@@ -35,7 +34,7 @@ fn next(chunk: &[u8], at: usize, line: &mut [u8], len: usize, out: &mut [u8], us
     }
     Stage {
         taken: taken.at,
-        len: kept,
+        len: taken.len,
         used,
     }
 }

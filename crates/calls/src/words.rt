@@ -1,5 +1,6 @@
 // What a line lends, by the byte where it begins: words of 4 bytes, counts of 2 and releases of 8.
 use fields::field_at;
+ghost use mathlib.Core.Path.{_≡_};
 ghost use Prim.Native.Nat.{_+_, _*_, _≤_, _<_};
 ghost use lib.ListN.{length};
 
@@ -15,24 +16,32 @@ pub(crate) fn count_at(line: &[u8], at: usize) -> usize
     (field_at(line, at, 2) % 65536) as usize
 }
 
-// `count` words from byte `at` on, at the front of the list.
-pub(crate) fn read_words(line: &[u8], at: usize, count: usize, words: &mut [u32])
-    requires { ⌜ (2 * (at + 4 * count) ≤ length (now line)) × (count ≤ length (now words)) ⌝ }
+// Fills the list with the words from byte `at` on. Hands back the byte past them.
+pub(crate) fn read_words(line: &[u8], at: usize, words: &mut [u32]) -> usize
+    requires { ⌜ at + 4 * length (now words) ≤ 99002 ⌝ }
+    ensures { λ r. ⌜ r ≡ at + 4 * length (now (words .entry)) ⌝ }
 {
+    let mut past = at;
     let mut i = 0;
-    while i < count {
-        words[i] = word_at(line, at + 4 * i);
+    while i < words.len() {
+        words[i] = word_at(line, past);
+        past += 4;
         i += 1;
     }
+    past
 }
 
-// `count` releases from byte `at` on.
-pub(crate) fn read_releases(line: &[u8], at: usize, count: usize, releases: &mut [u64])
-    requires { ⌜ (2 * (at + 8 * count) ≤ length (now line)) × (count ≤ length (now releases)) ⌝ }
+// Fills the list with the releases from byte `at` on. Hands back the byte past them.
+pub(crate) fn read_releases(line: &[u8], at: usize, releases: &mut [u64]) -> usize
+    requires { ⌜ at + 8 * length (now releases) ≤ 99002 ⌝ }
+    ensures { λ r. ⌜ r ≡ at + 8 * length (now (releases .entry)) ⌝ }
 {
+    let mut past = at;
     let mut i = 0;
-    while i < count {
-        releases[i] = field_at(line, at + 8 * i, 8);
+    while i < releases.len() {
+        releases[i] = field_at(line, past, 8);
+        past += 8;
         i += 1;
     }
+    past
 }

@@ -1,26 +1,20 @@
 -- `calls::words::read_releases` meets its contract. The measure is how many releases are left.
 -- Assumes nothing.
 use mathlib.Core.Path.{_≡_}
-use Prim.Native.Nat.{_≤_, _-_}
+use Prim.Native.Nat.{_+_, _*_, _-_, _≤_}
 use lib.ListN.{length}
 use borrow.Author.Needs.{needs}
 use Rattle.calls.proofs.words.read_releases.Statement.{statement}
 use Rattle.calls.proofs.words.read_releases.Tie as tie
 
 abbrev Inv-loop : tie.InvT-loop
-Inv-loop line at count releases₀ i₀ releases i = (i ≤ count) × (length releases ≡ length releases₀)
+Inv-loop line at releases₀ past₀ i₀ releases past i = (i ≤ length releases₀) × (past ≡ at + 8 * i) × (length releases ≡ length releases₀)
 
 abbrev μ-loop : tie.MeasureT-loop
-μ-loop line at count releases₀ i₀ releases i = count - i
+μ-loop line at releases₀ past₀ i₀ releases past i = length releases₀ - i
 
 loop-holds : tie.Need-loop-holds Inv-loop μ-loop
 loop-holds c = search needs
-
-mul-field-at : tie.Need-mul-field-at Inv-loop μ-loop
-mul-field-at c = search needs
-
-add-field-at : tie.Need-add-field-at Inv-loop μ-loop
-add-field-at c = search needs
 
 field-at-requires : tie.Need-field-at-requires Inv-loop μ-loop
 field-at-requires c κs = search needs
@@ -30,6 +24,9 @@ mul-releases c = search needs
 
 slice-write-releases : tie.Need-slice-write-releases Inv-loop μ-loop
 slice-write-releases c = search needs
+
+add-past : tie.Need-add-past Inv-loop μ-loop
+add-past c = search needs
 
 add-i : tie.Need-add-i Inv-loop μ-loop
 add-i c = search needs
@@ -53,11 +50,10 @@ read-releases-spec =
     Inv-loop
     μ-loop
     loop-holds
-    mul-field-at
-    add-field-at
     field-at-requires
     mul-releases
     slice-write-releases
+    add-past
     add-i
     loop-less
     loop-again

@@ -1,26 +1,20 @@
 -- `calls::words::read_words` meets its contract. The measure is how many words are left.
 -- Assumes nothing.
 use mathlib.Core.Path.{_≡_}
-use Prim.Native.Nat.{_≤_, _-_}
+use Prim.Native.Nat.{_+_, _*_, _-_, _≤_}
 use lib.ListN.{length}
 use borrow.Author.Needs.{needs}
 use Rattle.calls.proofs.words.read_words.Statement.{statement}
 use Rattle.calls.proofs.words.read_words.Tie as tie
 
 abbrev Inv-loop : tie.InvT-loop
-Inv-loop line at count words₀ i₀ words i = (i ≤ count) × (length words ≡ length words₀)
+Inv-loop line at words₀ past₀ i₀ words past i = (i ≤ length words₀) × (past ≡ at + 4 * i) × (length words ≡ length words₀)
 
 abbrev μ-loop : tie.MeasureT-loop
-μ-loop line at count words₀ i₀ words i = count - i
+μ-loop line at words₀ past₀ i₀ words past i = length words₀ - i
 
 loop-holds : tie.Need-loop-holds Inv-loop μ-loop
 loop-holds c = search needs
-
-mul-word-at : tie.Need-mul-word-at Inv-loop μ-loop
-mul-word-at c = search needs
-
-add-word-at : tie.Need-add-word-at Inv-loop μ-loop
-add-word-at c = search needs
 
 word-at-requires : tie.Need-word-at-requires Inv-loop μ-loop
 word-at-requires c κs = search needs
@@ -30,6 +24,9 @@ mul-words c = search needs
 
 slice-write-words : tie.Need-slice-write-words Inv-loop μ-loop
 slice-write-words c = search needs
+
+add-past : tie.Need-add-past Inv-loop μ-loop
+add-past c = search needs
 
 add-i : tie.Need-add-i Inv-loop μ-loop
 add-i c = search needs
@@ -53,11 +50,10 @@ read-words-spec =
     Inv-loop
     μ-loop
     loop-holds
-    mul-word-at
-    add-word-at
     word-at-requires
     mul-words
     slice-write-words
+    add-past
     add-i
     loop-less
     loop-again

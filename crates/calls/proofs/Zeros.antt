@@ -1,0 +1,22 @@
+-- Laws on an array of k zeros and on its front of n. They hold for every k, so that no proof counts a long array.
+-- Assumes nothing.
+use mathlib.Core.Path.{_≡_, sym}
+use Prim.Native.Nat.{ℕ, _+_, _*_, _≤_}
+use native.Mathlib.Omega.{arith}
+use lib.ListN.{length, take, replicate, length-take, length-replicate}
+
+pub all-count : (k : ℕ) → k ≡ length (replicate {A = ℕ} k 0)
+all-count k = sym (length-replicate k 0)
+
+pub all-most : (m k : ℕ) → m ≤ k → m ≤ length (replicate {A = ℕ} k 0)
+all-most m k h = simp length-replicate (omega arith)
+
+pub front-count : (n k : ℕ) → n ≤ k → n ≡ length (take n (replicate {A = ℕ} k 0))
+front-count n k h = simp (length-take, length-replicate) (omega arith)
+
+pub front-within : (n k : ℕ) → length (take n (replicate {A = ℕ} k 0)) ≤ k
+front-within n k = simp (length-take, length-replicate) (omega arith)
+
+-- the fronts of a walk's three arrays are no longer than its line says
+pub fronts-fit : (n jobs asked a b d : ℕ) → 42 + 8 * n + 16 * jobs + 8 * asked ≤ 99002 → 42 + 8 * length (take n (replicate {A = ℕ} a 0)) + 16 * length (take jobs (replicate {A = ℕ} b 0)) + 8 * length (take asked (replicate {A = ℕ} d 0)) ≤ 99002
+fronts-fit n jobs asked a b d h = simp length-take (omega arith)

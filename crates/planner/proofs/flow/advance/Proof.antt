@@ -31,20 +31,22 @@ returns c =
     let sought = c .before .before .before .before .before in
     let start = sought .before .before .before .before .before .before .before .before .before in
     let stuck = rw (c .before .before .before .found .given .1) at (sought .seek .ensures .1) in
-    (search needs, ended-whole (start .pre .0) stuck (c .before .excess .ensures) (c .if1 .taken))
+    (sought .seek .ensures .0, ended-whole (start .pre .0) stuck (c .before .excess .ensures) (c .if1 .taken))
 
 enum-known-found-2 : tie.Need-enum-known-found-2 Inv-loop μ-loop
 enum-known-found-2 c = search needs
 
 loop-holds : tie.Need-loop-holds Inv-loop μ-loop
 loop-holds c =
-    (search needs, rw (c .before .found2 .given .1) at (c .before .before .before .seek .ensures .1), refl)
+    let sought = c .before .before .before in
+    let start = sought .before .before .before .before .before .before .before .before .before in
+    (start .pre .0, rw (c .before .found2 .given .1) at (sought .seek .ensures .1), refl)
 
 mul-if2 : tie.Need-mul-if2 Inv-loop μ-loop
-mul-if2 c = search (way-small, needs)
+mul-if2 c = omega (arith, way-small (c .loop .inv .0) (c .loop .inv .1))
 
 element-copy-out-if2 : tie.Need-element-copy-out-if2 Inv-loop μ-loop
-element-copy-out-if2 c = search (way-small, needs)
+element-copy-out-if2 c = omega (arith, way-small (c .loop .inv .0) (c .loop .inv .1))
 
 mul-if2-2 : tie.Need-mul-if2-2 Inv-loop μ-loop
 mul-if2-2 c = omega (arith, way-small (c .before .loop .inv .0) (c .before .loop .inv .1))
@@ -53,7 +55,10 @@ element-copy-out-if2-2 : tie.Need-element-copy-out-if2-2 Inv-loop μ-loop
 element-copy-out-if2-2 c = omega (arith, way-small (c .before .loop .inv .0) (c .before .loop .inv .1))
 
 step-back-requires : tie.Need-step-back-requires Inv-loop μ-loop
-step-back-requires c κs = search (back-fits, needs)
+step-back-requires c κs =
+    let test = c .before .before .before .before .before .before in
+    let inv = test .before .before .before .loop .inv in
+    back-fits (inv .0) (inv .1) (test .if2 .taken)
 
 loop-less : tie.Need-loop-less Inv-loop μ-loop
 loop-less c =
@@ -62,7 +67,13 @@ loop-less c =
     omega (arith, c .step-back .ensures .0, back-less (inv .0) (inv .1) (test .if2 .taken))
 
 loop-again : tie.Need-loop-again Inv-loop μ-loop
-loop-again c = (search (back-filling, needs), search (back-way, needs), search (back-left, needs))
+loop-again c =
+    let test = c .before .before .before .before .before .before .before in
+    let inv = test .before .before .before .loop .inv in (
+      back-filling (inv .0) (inv .1) (test .if2 .taken) (c .step-back .ensures .1),
+      back-way (inv .0) (inv .1) (test .if2 .taken) (c .step-back .ensures .1) (c .step-back .ensures .0),
+      back-left (inv .0) (inv .1) (test .if2 .taken) (c .step-back .ensures .1) (inv .2),
+    )
 
 place-last-requires : tie.Need-place-last-requires Inv-loop μ-loop
 place-last-requires c κs =
@@ -71,11 +82,16 @@ place-last-requires c κs =
 
 returns-2 : tie.Need-returns-2 Inv-loop μ-loop
 returns-2 c =
-    let stuck = rw (c .before .before .before .found .given .1) at (c .before .before .before .before .before .seek .ensures .1) in
-    (search needs, search (ended-short, stuck, needs))
+    let sought = c .before .before .before .before .before in
+    let start = sought .before .before .before .before .before .before .before .before .before in
+    let stuck = rw (c .before .before .before .found .given .1) at (sought .seek .ensures .1) in
+    (sought .seek .ensures .0, ended-short (start .pre .0) stuck (c .before .excess .ensures) (c .if1 .left))
 
 returns-3 : tie.Need-returns-3 Inv-loop μ-loop
-returns-3 c = (search needs, search (last-kept, needs))
+returns-3 c =
+    let test = c .before .before .before .before .before .before in
+    let inv = test .before .before .before .loop .inv in
+    (c .before .before .before .before .before .before .before .before .before .before .before .before .before .seek .ensures .0, last-kept (inv .0) (inv .1) (test .if2 .left) (inv .2) (c .place-last .ensures))
 
 pub advance-spec : {M : Type 1} → statement M
 advance-spec =

@@ -108,22 +108,24 @@ pub(crate) fn find_cycle(
     tasks[0] = start;
     let mut k: usize = 0;
     loop {
+        let next = k + 1;
+        let t = tasks[k];
         let from = came_from(cores, k);
-        let c = other_core(units, m, cores_gone, tasks[k], from);
+        let c = other_core(units, m, cores_gone, t, from);
         let a = place_of(cores, k, c);
         cores[k] = c;
         if a < k {
             return Span {
                 lo: a + 1,
-                hi: k + 1,
+                hi: next,
             };
         }
-        let u = other_task(units, n, tasks_gone, c, tasks[k]);
-        let b = place_of(tasks, k + 1, u);
-        if b < k + 1 {
-            return Span { lo: b, hi: k + 1 };
+        let u = other_task(units, n, tasks_gone, c, t);
+        let b = place_of(tasks, next, u);
+        if b < next {
+            return Span { lo: b, hi: next };
         }
-        tasks[k + 1] = u;
-        k += 1;
+        tasks[next] = u;
+        k = next;
     }
 }

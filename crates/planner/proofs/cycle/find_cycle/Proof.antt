@@ -22,14 +22,17 @@ element-write-tasks c = search needs
 loop-holds : tie.Need-loop-holds Inv-loop μ-loop
 loop-holds c = (search needs, search needs, search needs, search (seek-begins, needs))
 
+add-next : tie.Need-add-next Inv-loop μ-loop
+add-next c = search needs
+
+mul-t : tie.Need-mul-t Inv-loop μ-loop
+mul-t c = search needs
+
+element-copy-out-t : tie.Need-element-copy-out-t Inv-loop μ-loop
+element-copy-out-t c = search needs
+
 came-from-requires : tie.Need-came-from-requires Inv-loop μ-loop
 came-from-requires c κs = search needs
-
-mul-other-core : tie.Need-mul-other-core Inv-loop μ-loop
-mul-other-core c = search needs
-
-element-copy-out-other-core : tie.Need-element-copy-out-other-core Inv-loop μ-loop
-element-copy-out-other-core c = search needs
 
 other-core-requires : tie.Need-other-core-requires Inv-loop μ-loop
 other-core-requires c κs =
@@ -48,57 +51,36 @@ mul-cores c = search needs
 element-write-cores : tie.Need-element-write-cores Inv-loop μ-loop
 element-write-cores c = search needs
 
-add-t27 : tie.Need-add-t27 Inv-loop μ-loop
-add-t27 c = search needs
-
-add-t28 : tie.Need-add-t28 Inv-loop μ-loop
-add-t28 c = search needs
+add-t29 : tie.Need-add-t29 Inv-loop μ-loop
+add-t29 c = search needs
 
 returns : tie.Need-returns Inv-loop μ-loop
 returns c =
     let p = c .before in
     let l = p .before .before .before .before .before .before in
-    (cycle-core _ _ _ _ _ (l .loop .tasks) (l .loop .cores) _ _ _ (l .loop .inv .3) (p .before .before .other-core .ensures) (p .before .before .before .before .came-from .ensures) (l .loop .inv .2) (l .loop .inv .0) _ (p .place-of .ensures) (c .if1 .taken), search needs)
-
-mul-other-task : tie.Need-mul-other-task Inv-loop μ-loop
-mul-other-task c = search needs
-
-element-copy-out-other-task : tie.Need-element-copy-out-other-task Inv-loop μ-loop
-element-copy-out-other-task c = search needs
+    (cycle-core _ _ _ _ _ (l .loop .tasks) (l .loop .cores) _ _ _ (l .loop .inv .3) (p .before .before .other-core .ensures) (p .before .before .before .came-from .ensures) (l .loop .inv .2) (l .loop .inv .0) _ (p .place-of .ensures) (c .if1 .taken), search needs)
 
 other-task-requires : tie.Need-other-task-requires Inv-loop μ-loop
 other-task-requires c κs =
-    let p = c .before .before in
+    let p = c .before in
     let l = p .before .before .before .before .before .before in (
       search needs,
       seek-core _ _ _ _ _ _ (l .before .pre .2) _ _ _ (p .before .before .other-core .ensures),
       seek-task-links _ _ _ _ _ _ (l .before .pre .2) _ _ _ (p .before .before .other-core .ensures),
     )
 
-add-place-of : tie.Need-add-place-of Inv-loop μ-loop
-add-place-of c = search needs
-
 place-of-requires-2 : tie.Need-place-of-requires-2 Inv-loop μ-loop
 place-of-requires-2 c κs = search needs
-
-add-if2 : tie.Need-add-if2 Inv-loop μ-loop
-add-if2 c = search needs
-
-add-t32 : tie.Need-add-t32 Inv-loop μ-loop
-add-t32 c = search needs
 
 returns-2 : tie.Need-returns-2 Inv-loop μ-loop
 returns-2 c =
     let q = c .before in
-    let e = q .before .before .before .before in
+    let e = q .before .before .before in
     let p = e .before in
     let l = p .before .before .before .before .before .before in (
-      cycle-task _ _ _ _ _ (l .loop .tasks) (l .loop .cores) _ _ _ (l .loop .inv .3) (p .before .before .other-core .ensures) (p .before .before .before .before .came-from .ensures) (l .loop .inv .2) (l .loop .inv .0) _ _ _ (p .place-of .ensures) (e .if1 .left) (q .before .before .other-task .ensures) (q .place-of2 .ensures) (c .if2 .taken),
+      cycle-task _ _ _ _ _ (l .loop .tasks) (l .loop .cores) _ _ _ (l .loop .inv .3) (p .before .before .other-core .ensures) (p .before .before .before .came-from .ensures) (l .loop .inv .2) (l .loop .inv .0) _ _ _ (p .place-of .ensures) (e .if1 .left) (q .before .before .other-task .ensures) (q .place-of2 .ensures) (c .if2 .taken),
       search needs,
     )
-
-add-tasks : tie.Need-add-tasks Inv-loop μ-loop
-add-tasks c = search needs
 
 mul-tasks : tie.Need-mul-tasks Inv-loop μ-loop
 mul-tasks c = search needs
@@ -106,19 +88,16 @@ mul-tasks c = search needs
 element-write-tasks-2 : tie.Need-element-write-tasks-2 Inv-loop μ-loop
 element-write-tasks-2 c = search needs
 
-add-k : tie.Need-add-k Inv-loop μ-loop
-add-k c = search needs
-
 loop-less : tie.Need-loop-less Inv-loop μ-loop
 loop-less c = search needs
 
 loop-again : tie.Need-loop-again Inv-loop μ-loop
 loop-again c =
     let q = c .before in
-    let e = q .before .before .before .before in
+    let e = q .before .before .before in
     let p = e .before in
     let l = p .before .before .before .before .before .before in
-    let way = cycle-more _ _ _ _ _ (l .loop .tasks) (l .loop .cores) _ _ _ (l .loop .inv .3) (p .before .before .other-core .ensures) (p .before .before .before .before .came-from .ensures) (l .loop .inv .2) (l .loop .inv .0) _ _ _ (p .place-of .ensures) (e .if1 .left) (q .before .before .other-task .ensures) (q .place-of2 .ensures) (c .if2 .left) (l .loop .inv .1) in
+    let way = cycle-more _ _ _ _ _ (l .loop .tasks) (l .loop .cores) _ _ _ (l .loop .inv .3) (p .before .before .other-core .ensures) (p .before .before .before .came-from .ensures) (l .loop .inv .2) (l .loop .inv .0) _ _ _ (p .place-of .ensures) (e .if1 .left) (q .before .before .other-task .ensures) (q .place-of2 .ensures) (c .if2 .left) (l .loop .inv .1) in
     (seek-short _ _ _ _ _ _ _ _ (l .before .pre .2 .cores) way, simp length-set (l .loop .inv .1), simp length-set (l .loop .inv .2), way)
 
 pub find-cycle-spec : {M : Type 1} → statement M
@@ -129,27 +108,20 @@ find-cycle-spec =
     μ-loop
     element-write-tasks
     loop-holds
+    add-next
+    mul-t
+    element-copy-out-t
     came-from-requires
-    mul-other-core
-    element-copy-out-other-core
     other-core-requires
     place-of-requires
     mul-cores
     element-write-cores
-    add-t27
-    add-t28
+    add-t29
     returns
-    mul-other-task
-    element-copy-out-other-task
     other-task-requires
-    add-place-of
     place-of-requires-2
-    add-if2
-    add-t32
     returns-2
-    add-tasks
     mul-tasks
     element-write-tasks-2
-    add-k
     loop-less
     loop-again)

@@ -9,7 +9,7 @@ use Rattle.rules.specs.Sum.{sumTo}
 use Rattle.rules.specs.Piece.{numbersOf}
 use Rattle.rules.specs.Allocation.{limitOf, Allocation}
 use Rattle.rules.specs.Table.{tableOf}
-use Rattle.rules.specs.Tests.{Tested, refused, passed, tested}
+use Rattle.rules.specs.Tests.{Tested, tested}
 use Rattle.rules.specs.Plan.{at, Decided, planned, overloaded, PlanAnswer, PlanAnswerAt}
 use Rattle.rules.specs.declared.Answer.{Answer}
 use Rattle.rules.specs.declared.Answer.the-variants.{Accepted, Overloaded}

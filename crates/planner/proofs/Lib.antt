@@ -2,6 +2,7 @@ pub mod CycleLaws
 pub mod DecideLaws
 pub mod EndedLaws
 pub mod FillLaws
+pub mod GoBackLaws
 pub mod Links
 pub mod Loose
 pub mod Promised

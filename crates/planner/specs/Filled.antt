@@ -9,8 +9,9 @@ use Rattle.rules.specs.Plan.{at}
 use Rattle.rules.specs.Allocation.{limitOf, Allocation}
 use Rattle.rules.specs.Excess.{Exceeds, Smallest}
 use Rattle.stretches.specs.Cell.{cell}
-use Rattle.planner.specs.Fill.{Demand, Filling, lack}
+use Rattle.planner.specs.Fill.{Demand, demand, Filling, lack}
 use Rattle.planner.specs.Stock.{Stock}
+use Rattle.planner.specs.Search.{Trail, WayBack}
 use Rattle.planner.specs.declared.flow.Filled.{Filled}
 use Rattle.planner.specs.declared.flow.Filled.the-variants.{Whole, Short}
 use Rattle.planner.specs.declared.flow.Pass.{Pass}
@@ -38,6 +39,25 @@ FilledBy F m budgets masks units (Short g c) = ShortBy F m budgets masks g c
 pub record MoreBy (asked : Demand) (before after : Stock) : Type 0 where
   pub filling : Filling asked after
   pub less : lack asked after < lack asked before
+
+-- some demand is being filled, and a way back starts at the place p
+pub record Opening (s : Stock) (w : Trail) (p : ℕ) : Type 0 where
+  pub frame : ℕ
+  pub cores : ℕ
+  pub budgets : List ℕ
+  pub masks : List ℕ
+  pub filling : Filling (demand frame cores budgets masks) s
+  pub way : WayBack cores masks s w p
+
+-- the way back from the place hit has come to the place p, and the stock s: whatever demand was being filled still is, and lacks as much
+pub record Underway (start : Stock) (w : Trail) (hit : ℕ) (s : Stock) (p : ℕ) : Type 0 where
+  pub as-much : s .left ≡ start .left
+  pub kept : (F m : ℕ) (budgets masks : List ℕ) → Filling (demand F m budgets masks) start → WayBack m masks start w hit
+      → Filling (demand F m budgets masks) s × WayBack m masks s w p
+
+-- it has come to its end: whatever demand was being filled lacks less
+pub record Closer (start : Stock) (w : Trail) (hit : ℕ) (s : Stock) : Type 0 where
+  pub closer : (F m : ℕ) (budgets masks : List ℕ) → Filling (demand F m budgets masks) start → WayBack m masks start w hit → MoreBy (demand F m budgets masks) start s
 
 abbrev pub PassBy : Demand → (before after : Stock) → Pass → Type 0
 PassBy asked before after More = MoreBy asked before after

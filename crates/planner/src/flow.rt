@@ -8,7 +8,7 @@ ghost use Rattle.planner.specs.Fill.{Filling, FillReady, Copied, demand}
 ghost use Rattle.planner.specs.Stock.{ShareFits, PlacedOn, stock, shared};
 ghost use Rattle.planner.specs.Search.{Sized, trail, place-before};
 ghost use Rattle.planner.specs.Back.{StepFits, moved};
-ghost use Rattle.planner.specs.Filled.{FilledBy, PassBy};
+ghost use Rattle.planner.specs.Filled.{FilledBy, PassBy, Opening, Closer};
 use crate::search::Outcome;
 use crate::search::seek;
 use crate::steps::lesser;
@@ -84,8 +84,33 @@ fn place_last(
     place(units, left, room, t, core, d);
 }
 
-// From a core with room the way goes back to a task that lacks units: each step makes room on an earlier core. Where no core has room, the
-// excess of what was found decides.
+// From a core with room the way goes back to a task that lacks units: each step makes room on an earlier core.
+fn go_back(
+    units: &mut [u32; 1024],
+    left: &mut [u32; 64],
+    room: &mut [u32; 16],
+    queue: &[usize; 16],
+    via: &[usize; 16],
+    from: &[usize; 64],
+    hit: usize,
+)
+    requires { ⌜ Opening (stock (now units) (now left) (now room)) (trail (now queue) (now via) (now from)) hit ⌝ }
+    ensures { λ _. ⌜
+        Closer
+        (stock (now (units .entry)) (now (left .entry)) (now (room .entry)))
+        (trail (now (queue .entry)) (now (via .entry)) (now (from .entry)))
+        hit
+        (stock (now (units .exit)) (now (left .exit)) (now (room .exit)))
+        ⌝ }
+{
+    let mut p = hit;
+    while left[via[p]] == 0 {
+        p = step_back(units, left, room, queue, via, from, p);
+    }
+    place_last(units, left, room, queue, via, p);
+}
+
+// One search: a core with room is reached, and units go there by the way back; or none is, and the excess of what was found decides.
 fn advance(
     frame: u32,
     cores: usize,
@@ -124,11 +149,7 @@ fn advance(
             })
         }
         Outcome::Room(hit) => {
-            let mut p = hit;
-            while left[via[p]] == 0 {
-                p = step_back(units, left, room, queue, via, from, p);
-            }
-            place_last(units, left, room, queue, via, p);
+            go_back(units, left, room, queue, via, from, hit);
             Pass::More
         }
     }

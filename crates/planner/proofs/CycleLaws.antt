@@ -1,4 +1,4 @@
--- The laws of a way whose vertices stand in two lists of eighteen places.
+-- For find_cycle of cycle.rt: a way whose vertices stand in two lists of eighteen places.
 -- Assumes nothing.
 use mathlib.Core.Path.{_≡_}
 use mathlib.Core.List.{List}

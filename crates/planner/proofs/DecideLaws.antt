@@ -1,4 +1,4 @@
--- The laws by which the parts of the planner make up its answer.
+-- For decide.rt and plan: the parts of the planner make up its answer.
 -- Assumes nothing.
 use mathlib.Core.Path.{_≡_, refl, sym, _∙_, ap, subst}
 use mathlib.Core.List.{List, _++_}

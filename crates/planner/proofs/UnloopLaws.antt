@@ -1,4 +1,4 @@
--- The laws by which cycles go one after another until the graph comes apart.
+-- For unloop.rt: cycles go one after another until the graph comes apart.
 -- Assumes nothing.
 use mathlib.Core.Path.{_≡_, sym, _∙_, subst}
 use Prim.Native.Nat.{ℕ, _+_, _≤_, _<_}

@@ -1,4 +1,4 @@
--- For advance of flow.rt: each step of the way back takes units from an earlier core and places them on the one with room, and the last
+-- For go_back of flow.rt: each step of the way back takes units from an earlier core and places them on the one with room, and the last
 -- places units of a task that lacks some; all keep a partial allocation.
 -- Assumes nothing.
 use mathlib.Core.Path.{_≡_, sym, _∙_, ap, subst}

@@ -1,4 +1,4 @@
--- The laws by which the code seeks the next vertex of a way.
+-- For suits, other_core, other_task, place_of and came_from of cycle.rt: the next vertex of a way is sought.
 -- Assumes nothing.
 use mathlib.Core.Path.{_≡_, sym, _∙_, ap, subst}
 use mathlib.Core.Bool.{Bool, true, false, false≢true}
@@ -14,7 +14,7 @@ use Rattle.forest.specs.Stripping.{there}
 use Rattle.forest.specs.Path.{Other, Place}
 use Rattle.planner.specs.Seeking.{Suits, Came}
 use Rattle.sums.proofs.Pigeon.{sum-one}
-use Rattle.planner.proofs.Links.{link-empty, link-gone}
+use Rattle.planner.proofs.LinkLaws.{link-empty, link-gone}
 
 pub suits-back : (units gone at from : ℕ) → at ≡ from → Suits units gone at from false
 suits-back units gone at from e =

@@ -1,5 +1,6 @@
 // Loops are removed by shifting units round the cycle, with all task and core sums kept (001, section 5). The cycle stands in the places
 // lo to hi - 1 of two lists: each task there has units on its core and on the core before it, round the cycle.
+use crate::steps::lesser;
 ghost use mathlib.Core.Path.{_≡_};
 ghost use Prim.Native.Nat.{_+_, _^_, _≤_, _<_};
 ghost use lib.ListN.{length};
@@ -56,15 +57,6 @@ pub(crate) fn least(
         i += 1;
     }
     d
-}
-
-fn lesser(a: u32, b: u32) -> u32
-    ensures { λ r. ⌜ (r ≤ a) × (r ≤ b) × ((r ≡ a → ⊥) → r ≡ b) ⌝ }
-{
-    if a < b {
-        return a;
-    }
-    b
 }
 
 // All shifts, one task after another.

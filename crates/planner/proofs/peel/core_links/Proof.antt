@@ -3,7 +3,7 @@ use mathlib.Core.Path.{_≡_}
 use Prim.Native.Nat.{_≤_, _-_}
 use Rattle.stretches.specs.Cell.{cell}
 use Rattle.forest.specs.Stripping.{links}
-use Rattle.planner.proofs.Links.{links-none, links-more, links-done}
+use Rattle.planner.proofs.LinkLaws.{links-none, links-more, links-done}
 use borrow.Author.Needs.{needs}
 use Rattle.planner.proofs.peel.core_links.Statement.{statement}
 use Rattle.planner.proofs.peel.core_links.Tie as tie

@@ -1,5 +1,5 @@
 -- Each answer is the product, by the tests that led to it. Assumes nothing.
-use Rattle.planner.proofs.Links.{link-some, link-empty, link-gone}
+use Rattle.planner.proofs.LinkLaws.{link-some, link-empty, link-gone}
 use borrow.Author.Needs.{needs}
 use Rattle.planner.proofs.peel.link.Statement.{statement}
 use Rattle.planner.proofs.peel.link.Tie as tie

@@ -2,7 +2,7 @@
 use Prim.Native.Nat.{_≤_, _-_}
 use Rattle.stretches.specs.Cell.{cell}
 use Rattle.forest.specs.Stripping.{links}
-use Rattle.planner.proofs.Loose.{FastBelow, fast-none, fast-more, loose-found, loose-none}
+use Rattle.planner.proofs.LooseLaws.{FastBelow, fast-none, fast-more, loose-found, loose-none}
 use borrow.Author.Needs.{needs}
 use Rattle.planner.proofs.peel.loose_task.Statement.{statement}
 use Rattle.planner.proofs.peel.loose_task.Tie as tie

@@ -3,7 +3,7 @@ use Prim.Native.Nat.{_+_}
 use Rattle.rules.specs.Sum.{sumTo}
 use Rattle.stretches.specs.Cell.{cell}
 use Rattle.forest.specs.Stripping.{there, Stripping}
-use Rattle.planner.proofs.Loose.{peel-task, peel-core, task-less, core-less, all-fast}
+use Rattle.planner.proofs.LooseLaws.{peel-task, peel-core, task-less, core-less, all-fast}
 use borrow.Author.Needs.{needs}
 use Rattle.planner.proofs.peel.peel.Statement.{statement}
 use Rattle.planner.proofs.peel.peel.Tie as tie

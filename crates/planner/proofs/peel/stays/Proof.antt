@@ -1,5 +1,5 @@
 -- By the two tests. Assumes nothing.
-use Rattle.planner.proofs.Loose.{stays-there, stays-gone}
+use Rattle.planner.proofs.LooseLaws.{stays-there, stays-gone}
 use Rattle.planner.proofs.peel.stays.Statement.{statement}
 use Rattle.planner.proofs.peel.stays.Tie as tie
 

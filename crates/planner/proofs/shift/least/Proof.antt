@@ -3,7 +3,7 @@ use Prim.Native.Nat.{_+_, _-_, _≤_}
 use Rattle.rules.specs.Plan.{at}
 use Rattle.stretches.specs.Cell.{cell}
 use Rattle.forest.specs.Ring.{Least}
-use Rattle.planner.proofs.RingLaws.{least-one, least-more, least-done, down-one}
+use Rattle.planner.proofs.ShiftLaws.{least-one, least-more, least-done, down-one}
 use borrow.Author.Needs.{needs}
 use Rattle.planner.proofs.shift.least.Statement.{statement}
 use Rattle.planner.proofs.shift.least.Tie as tie

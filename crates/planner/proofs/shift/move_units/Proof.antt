@@ -1,5 +1,5 @@
 -- Two stores, at different places. Assumes nothing.
-use Rattle.planner.proofs.Stores.{raise-fits, moved-by-stores}
+use Rattle.planner.proofs.MoveLaws.{raise-fits, moved-by-stores}
 use lib.ListN.{length-set}
 use borrow.Author.Needs.{needs}
 use Rattle.planner.proofs.shift.move_units.Statement.{statement}

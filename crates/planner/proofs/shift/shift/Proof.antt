@@ -5,7 +5,7 @@ use lib.ListN.{length}
 use Rattle.rules.specs.Plan.{at}
 use Rattle.stretches.specs.Cell.{cell}
 use Rattle.forest.specs.Ring.{Shifted}
-use Rattle.planner.proofs.RingLaws.{shift-begins, shift-task, shift-core, shift-to, shift-differ, shift-enough, shift-fits, shift-again, shift-keeps, shift-fewer}
+use Rattle.planner.proofs.ShiftLaws.{shift-begins, shift-task, shift-core, shift-to, shift-differ, shift-enough, shift-fits, shift-again, shift-keeps, shift-fewer}
 use borrow.Author.Needs.{needs}
 use Rattle.planner.proofs.shift.shift.Statement.{statement}
 use Rattle.planner.proofs.shift.shift.Tie as tie

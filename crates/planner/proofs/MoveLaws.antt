@@ -1,4 +1,4 @@
--- A flat list of units, sixteen a task, read as a function of task and core: what a store changes.
+-- For move_units of shift.rt: a flat list of units, sixteen a task, read as a function of task and core, and what a store changes.
 -- Assumes nothing.
 use mathlib.Core.Path.{_≡_, sym, _∙_, ap}
 use mathlib.Core.List.{List}

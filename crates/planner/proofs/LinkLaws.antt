@@ -1,4 +1,4 @@
--- The laws by which a loop counts the links of a vertex.
+-- For link, task_links and core_links of peel.rt: a loop counts the links of a vertex.
 -- Assumes nothing.
 use mathlib.Core.Path.{_≡_, refl, _∙_, ap}
 use Prim.Native.Nat.{ℕ, _+_, _-_, _*_, _≤_, _<_}

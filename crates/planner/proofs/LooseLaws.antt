@@ -1,4 +1,4 @@
--- The laws by which the lowest loose vertex is sought, and by which one vertex after another goes.
+-- For stays, loose_task, loose_core and peel of peel.rt: the lowest loose vertex is sought, and one vertex after another goes.
 -- Assumes nothing.
 use mathlib.Core.Path.{_≡_, sym, _∙_, subst}
 use mathlib.Core.Bool.{Bool, true, false, true≢false}

@@ -1,7 +1,7 @@
--- The laws by which the code seeks the least amount and shifts it round the cycle.
+-- For least and shift of shift.rt: the least amount is sought, and shifted round the cycle.
 -- Assumes nothing.
 use mathlib.Core.Path.{_≡_, sym, _∙_, subst}
-use Prim.Native.Nat.{ℕ, _+_, _-_, _^_, _≤_, _<_}
+use Prim.Native.Nat.{ℕ, min, _+_, _-_, _^_, _≤_, _<_}
 use native.Mathlib.Nat.{le-antisymm}
 use native.Mathlib.Decide.{ℕ-discrete}
 use native.Mathlib.Omega.{arith}
@@ -25,7 +25,7 @@ module _ (x : ℕ → ℕ → ℕ) (task core : ℕ → ℕ) (lo : ℕ) where
       only : {i : ℕ} → lo ≤ i → i < lo + 1 → lo ≡ i
       only a b = omega arith
 
-  pub least-more : (i d e r : ℕ) → lo + 1 ≤ i → Least x task core lo i d → e ≡ x (task i) (core i) → (r ≤ d) × (r ≤ e) × ((r ≡ d → ⊥) → r ≡ e)
+  pub least-more : (i d e r : ℕ) → lo + 1 ≤ i → Least x task core lo i d → e ≡ x (task i) (core i) → r ≡ min d e
       → Least x task core lo (i + 1) r
   least-more i d e r l s f g =
       elim (ℕ-discrete r d) [
@@ -37,15 +37,18 @@ module _ (x : ℕ → ℕ → ℕ) (task core : ℕ → ℕ) (lo : ℕ) where
               to-hi = omega (arith, s .to-hi);
               met = s .met ∙ sym p;
             }
-        | no p ↦ record { at-most = below; place = i; from-lo = omega arith; to-hi = omega arith; met = sym f ∙ sym (g .2 p) }
+        | no p ↦ record { at-most = below; place = i; from-lo = omega arith; to-hi = omega arith; met = sym f ∙ sym (other g p) }
       ]
     where
       below : (k : ℕ) → lo ≤ k → k < i + 1 → r ≤ x (task k) (core k)
       below k a b =
           elim (ℕ-discrete k i) [
-            | yes p ↦ subst (λ (j : ℕ). r ≤ x (task j) (core j)) (sym p) (omega (arith, g .1))
-            | no p ↦ omega (arith, g .0, s .at-most k a (omega arith))
+            | yes p ↦ subst (λ (j : ℕ). r ≤ x (task j) (core j)) (sym p) (omega (arith, f))
+            | no p ↦ omega (arith, s .at-most k a (omega arith))
           ]
+
+      other : {r d e : ℕ} → r ≡ min d e → (r ≡ d → ⊥) → r ≡ e
+      other g p = omega arith
 
   pub least-done : (i hi d : ℕ) → i ≤ hi → hi ≤ i → Least x task core lo i d → Least x task core lo hi d
   least-done i hi d a b s = subst (λ (k : ℕ). Least x task core lo k d) (le-antisymm a b) s

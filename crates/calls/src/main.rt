@@ -5,7 +5,7 @@ mod lent;
 mod lines;
 mod words;
 
-use lines::feed;
+use lines::next;
 use stream::Source;
 ghost use Prim.Native.Nat.{_≤_};
 ghost use lib.ListN.{length};
@@ -13,10 +13,10 @@ ghost use lib.ListN.{length};
 // One byte more than the longest line that a call can have, 99,002 digits.
 const LINE_BYTES: usize = 99003;
 
-// 65,536 bytes of answers, and the longest one after them.
-const OUTPUT_BYTES: usize = 164539;
+// The longest answer line, 99,002 digits, with its line feed.
+const OUTPUT_BYTES: usize = 99003;
 
-// Every chunk of the input, to its end or until reading or writing fails.
+// Every line of the input, to its end or until reading or writing fails. Each answer line is written by itself.
 fn answer_all(input: &mut [u8], line: &mut [u8], out: &mut [u8]) -> Source
     requires { ⌜ 99003 ≤ length (now out) ⌝ }
 {
@@ -29,7 +29,7 @@ fn answer_all(input: &mut [u8], line: &mut [u8], out: &mut [u8]) -> Source
         if at == end {
             return chunk;
         }
-        let stage = feed(&input[at..end], line, len, out);
+        let stage = next(&input[at..end], line, len, out);
         len = stage.len;
         source = stream::pass_on(chunk, stage.taken, out, stage.used);
     }

@@ -7,7 +7,7 @@ ghost use lib.ListN.{length};
 
 // The answer line of the line that is kept, and a line feed.
 fn answer(line: &[u8], len: usize, out: &mut [u8]) -> usize
-    requires { ⌜ (len ≤ length (now line)) × (99003 ≤ length (now out)) ⌝ }
+    requires { ⌜ (len ≤ length (now line)) × (length (now line) ≤ 99003) × (99003 ≤ length (now out)) ⌝ }
 {
     let n = answer_line(&line[..len], out);
     out[n] = 10;
@@ -16,7 +16,7 @@ fn answer(line: &[u8], len: usize, out: &mut [u8]) -> usize
 
 // The next line of a chunk that is not empty, or what the chunk has of it. A whole line is answered.
 pub(crate) fn next(chunk: &[u8], line: &mut [u8], len: usize, out: &mut [u8]) -> Stage
-    requires { ⌜ (0 < length (now chunk)) × (len ≤ length (now line)) × (99003 ≤ length (now out)) ⌝ }
+    requires { ⌜ (0 < length (now chunk)) × (len ≤ length (now line)) × (length (now line) ≤ 99003) × (99003 ≤ length (now out)) ⌝ }
     ensures { λ r. ⌜ (r .len ≤ length (now (line .entry))) × (1 ≤ r .taken) ⌝ }
 {
     let taken = stream::take_line(chunk, 0, line, len);

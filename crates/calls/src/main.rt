@@ -18,20 +18,20 @@ const OUTPUT_BYTES: usize = 99003;
 
 // Every line of the input, to its end or until reading or writing fails. Each answer line is written by itself.
 fn answer_all(input: &mut [u8], line: &mut [u8], out: &mut [u8]) -> Source
-    requires { ⌜ 99003 ≤ length (now out) ⌝ }
+    requires { ⌜ (length (now line) ≤ 99003) × (99003 ≤ length (now out)) ⌝ }
 {
     let mut source = stream::start();
     let mut len = 0;
     loop {
-        let chunk = stream::more(source, input);
-        let at = chunk.at;
-        let end = chunk.end;
+        source = stream::more(source, input);
+        let at = source.at;
+        let end = source.end;
         if at == end {
-            return chunk;
+            return source;
         }
         let stage = next(&input[at..end], line, len, out);
         len = stage.len;
-        source = stream::pass_on(chunk, stage.taken, out, stage.used);
+        source = stream::pass_on(source, stage.taken, out, stage.used);
     }
 }
 

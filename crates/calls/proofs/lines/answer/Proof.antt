@@ -10,7 +10,7 @@ slice-aggregate-answer-line : tie.Need-slice-aggregate-answer-line
 slice-aggregate-answer-line c = simp length-take (omega arith)
 
 answer-line-requires : tie.Need-answer-line-requires
-answer-line-requires c κs = search needs
+answer-line-requires c κs = simp length-take (omega arith)
 
 slice-write-out : tie.Need-slice-write-out
 slice-write-out c = search needs

@@ -8,6 +8,9 @@ use lib.ListN.{length, take, replicate, length-take, length-replicate}
 pub all-count : (k : ℕ) → k ≡ length (replicate {A = ℕ} k 0)
 all-count k = sym (length-replicate k 0)
 
+pub all-within : (k : ℕ) → length (replicate {A = ℕ} k 0) ≤ k
+all-within k = simp length-replicate (omega arith)
+
 pub all-most : (m k : ℕ) → m ≤ k → m ≤ length (replicate {A = ℕ} k 0)
 all-most m k h = simp length-replicate (omega arith)
 
@@ -18,5 +21,5 @@ pub front-within : (n k : ℕ) → length (take n (replicate {A = ℕ} k 0)) ≤
 front-within n k = simp (length-take, length-replicate) (omega arith)
 
 -- the fronts of a walk's three arrays are no longer than its line says
-pub fronts-fit : (n jobs asked a b d : ℕ) → 42 + 8 * n + 16 * jobs + 8 * asked ≤ 99002 → 42 + 8 * length (take n (replicate {A = ℕ} a 0)) + 16 * length (take jobs (replicate {A = ℕ} b 0)) + 8 * length (take asked (replicate {A = ℕ} d 0)) ≤ 99002
+pub fronts-fit : (n jobs asked a b d : ℕ) → n + 2 * jobs + asked ≤ 12370 → length (take n (replicate {A = ℕ} a 0)) + 2 * length (take jobs (replicate {A = ℕ} b 0)) + length (take asked (replicate {A = ℕ} d 0)) ≤ 12370
 fronts-fit n jobs asked a b d h = simp length-take (omega arith)

@@ -41,8 +41,7 @@ pub(crate) fn put_answer(
     put_field(out, 0, 1, rules::number(answer) as u64);
     match answer {
         Answer::Accepted => put_values(out, values, count, width),
-        Answer::JobList(job) => put_job(out, job),
-        Answer::NoUnits(job) => put_job(out, job),
+        Answer::JobList(job) | Answer::NoUnits(job) => put_job(out, job),
         _ => 2,
     }
 }
@@ -51,5 +50,6 @@ pub(crate) fn put_answer(
 pub(crate) fn put_bad_line(out: &mut [u8]) -> usize
     ensures { λ r. ⌜ r ≤ 99002 ⌝ }
 {
-    put_answer(out, Answer::BadLine, &[0], 0, 1)
+    put_field(out, 0, 1, rules::number(Answer::BadLine) as u64);
+    2
 }

@@ -9,21 +9,20 @@ use fields::all_digits;
 use fields::field_at;
 use rules::Answer;
 use rules::Counted;
-ghost use Prim.Native.Nat.{_+_, _*_, _≤_, _<_};
+ghost use Prim.Native.Nat.{_+_, _*_, _≤_, _<_, min};
 ghost use lib.ListN.{length};
 
-// The most digits that a line may have; the program keeps one byte more, so that a longer line is seen.
-const MAX_DIGITS: usize = 99002;
-
-// The digits before the words of a table check or a move count, and before a walk's lists.
-const TABLE_HEAD: usize = 18;
-
-const WALK_HEAD: usize = 42;
-
-// Digits of a word, and of a release.
+// The line of a call has a byte and whole words of 8 digits: 2 words at least, and at most so many.
 const WORD: usize = 8;
 
-const RELEASE: usize = 16;
+const MOST_WORDS: usize = 12375;
+
+const SHORTEST: usize = 18;
+
+// The words before those of a table check or a move count, and before a walk's lists.
+const TABLE_HEAD: usize = 2;
+
+const WALK_HEAD: usize = 5;
 
 // The most that a field of 2 bytes can count.
 const MOST_FINISHES: usize = 65535;
@@ -46,11 +45,11 @@ fn ask_table(line: &[u8], shown: usize, words: &mut [u32]) -> Counted
 
 // The answer line of either.
 fn put_table(line: &[u8], shown: usize, out: &mut [u8]) -> usize
-    requires { ⌜ (18 ≤ length (now line)) × (length (now line) ≤ 99002) × (shown ≤ 1) ⌝ }
+    requires { ⌜ (18 ≤ length (now line)) × (length (now line) ≤ 99003) × (shown ≤ 1) ⌝ }
     ensures { λ r. ⌜ r ≤ 99002 ⌝ }
 {
-    let count = (line.len() - TABLE_HEAD) / WORD;
-    let mut words = [0u32; (MAX_DIGITS - TABLE_HEAD) / WORD];
+    let count = line.len() / WORD - TABLE_HEAD;
+    let mut words = [0u32; MOST_WORDS - TABLE_HEAD];
     let found = ask_table(line, shown, &mut words[..count]);
     let answer = found.answer;
     put_answer(out, answer, &[found.moves as u64], shown, 4)
@@ -64,7 +63,7 @@ fn walk_lists(
     units: &mut [u32],
     finishes: &mut [u64],
 ) -> Answer
-    requires { ⌜ 42 + 8 * length (now words) + 16 * length (now releases) + 8 * length (now units) ≤ 99002 ⌝ }
+    requires { ⌜ length (now words) + 2 * length (now releases) + length (now units) ≤ 12370 ⌝ }
 {
     let second = read_words(line, 21, words);
     let third = read_releases(line, second, releases);
@@ -82,12 +81,12 @@ fn walk_lists(
 
 // The walk with room for `n` words, `jobs` releases and `asked` units.
 fn walk_room(line: &[u8], n: usize, jobs: usize, asked: usize, finishes: &mut [u64]) -> Answer
-    requires { ⌜ (42 + 8 * n + 16 * jobs + 8 * asked ≤ 99002) × (65535 ≤ length (now finishes)) ⌝ }
+    requires { ⌜ (n + 2 * jobs + asked ≤ 12370) × (65535 ≤ length (now finishes)) ⌝ }
 {
     let room = count_at(line, 19);
-    let mut words = [0u32; (MAX_DIGITS - WALK_HEAD) / WORD];
-    let mut releases = [0u64; (MAX_DIGITS - WALK_HEAD) / RELEASE];
-    let mut units = [0u32; (MAX_DIGITS - WALK_HEAD) / WORD];
+    let mut words = [0u32; MOST_WORDS - WALK_HEAD];
+    let mut releases = [0u64; (MOST_WORDS - WALK_HEAD) / 2];
+    let mut units = [0u32; MOST_WORDS - WALK_HEAD];
     walk_lists(
         line,
         &mut words[..n],
@@ -106,7 +105,7 @@ fn put_walk(
     finishes: &mut [u64],
     out: &mut [u8],
 ) -> usize
-    requires { ⌜ (42 + 8 * n + 16 * jobs + 8 * asked ≤ 99002) × (65535 ≤ length (now finishes)) ⌝ }
+    requires { ⌜ (n + 2 * jobs + asked ≤ 12370) × (65535 ≤ length (now finishes)) ⌝ }
     ensures { λ r. ⌜ r ≤ 99002 ⌝ }
 {
     let answer = walk_room(line, n, jobs, asked, finishes);
@@ -114,22 +113,28 @@ fn put_walk(
 }
 
 // The walk: "task (4), word count (2), release count (2), unit count (2), finish room (2)" follow F and m.
+// A release takes two words of the line.
 fn walk(line: &[u8], out: &mut [u8]) -> usize
-    requires { ⌜ length (now line) ≤ 99002 ⌝ }
+    requires { ⌜ length (now line) ≤ 99003 ⌝ }
     ensures { λ r. ⌜ r ≤ 99002 ⌝ }
 {
     let n = count_at(line, 13);
     let jobs = count_at(line, 15);
     let asked = count_at(line, 17);
-    if WALK_HEAD + WORD * n + RELEASE * jobs + WORD * asked != line.len() {
+    if WALK_HEAD + n + 2 * jobs + asked != line.len() / WORD {
         return put_bad_line(out);
     }
     let mut finishes = [0u64; MOST_FINISHES];
     put_walk(line, n, jobs, asked, &mut finishes, out)
 }
 
-// Which call a line asks for. Every call's line has a byte and whole words of 8 digits; 0 is no call.
-fn call_of(line: &[u8]) -> u64 {
+// Which call a line asks for; 0 is no call.
+fn call_of(line: &[u8]) -> u64
+    ensures { λ r. ⌜ 18 * min 1 r ≤ length (now (line .entry)) ⌝ }
+{
+    if line.len() < SHORTEST {
+        return 0;
+    }
     if line.len() % WORD != 2 {
         return 0;
     }
@@ -139,16 +144,11 @@ fn call_of(line: &[u8]) -> u64 {
     field_at(line, 0, 1)
 }
 
-// The answer of one line, without its line feed. Every call's line has a byte and two words at least.
+// The answer of one line, without its line feed. 99,003 bytes are a line that is too long: they are not a byte and whole words.
 pub(crate) fn answer_line(line: &[u8], out: &mut [u8]) -> usize
+    requires { ⌜ length (now line) ≤ 99003 ⌝ }
     ensures { λ r. ⌜ r ≤ 99002 ⌝ }
 {
-    if MAX_DIGITS < line.len() {
-        return put_bad_line(out);
-    }
-    if line.len() < TABLE_HEAD {
-        return put_bad_line(out);
-    }
     match call_of(line) {
         1 => put_table(line, 0, out),
         2 => put_table(line, 1, out),

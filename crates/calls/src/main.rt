@@ -5,7 +5,7 @@ mod lent;
 mod lines;
 mod words;
 
-use lines::feed;
+use lines::next;
 use stream::Source;
 ghost use Prim.Native.Nat.{_≤_};
 ghost use lib.ListN.{length};
@@ -13,25 +13,25 @@ ghost use lib.ListN.{length};
 // One byte more than the longest line that a call can have, 99,002 digits.
 const LINE_BYTES: usize = 99003;
 
-// 65,536 bytes of answers, and the longest one after them.
-const OUTPUT_BYTES: usize = 164539;
+// The longest answer line, 99,002 digits, with its line feed.
+const OUTPUT_BYTES: usize = 99003;
 
-// Every chunk of the input, to its end or until reading or writing fails.
+// Every line of the input, to its end or until reading or writing fails. Each answer line is written by itself.
 fn answer_all(input: &mut [u8], line: &mut [u8], out: &mut [u8]) -> Source
-    requires { ⌜ 99003 ≤ length (now out) ⌝ }
+    requires { ⌜ (length (now line) ≤ 99003) × (99003 ≤ length (now out)) ⌝ }
 {
     let mut source = stream::start();
     let mut len = 0;
     loop {
-        let chunk = stream::more(source, input);
-        let at = chunk.at;
-        let end = chunk.end;
+        source = stream::more(source, input);
+        let at = source.at;
+        let end = source.end;
         if at == end {
-            return chunk;
+            return source;
         }
-        let stage = feed(&input[at..end], line, len, out);
+        let stage = next(&input[at..end], line, len, out);
         len = stage.len;
-        source = stream::pass_on(chunk, stage.taken, out, stage.used);
+        source = stream::pass_on(source, stage.taken, out, stage.used);
     }
 }
 

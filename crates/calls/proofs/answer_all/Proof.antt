@@ -35,17 +35,17 @@ same-length-3 c = search needs
 returns : tie.Need-returns Inv-loop μ-loop
 returns c = search needs
 
-sub-feed : tie.Need-sub-feed Inv-loop μ-loop
-sub-feed c = search needs
+sub-next : tie.Need-sub-next Inv-loop μ-loop
+sub-next c = search needs
 
-part-feed-start : tie.Need-part-feed-start Inv-loop μ-loop
-part-feed-start c = search needs
+part-next-start : tie.Need-part-next-start Inv-loop μ-loop
+part-next-start c = search needs
 
-part-feed-end : tie.Need-part-feed-end Inv-loop μ-loop
-part-feed-end c = search needs
+part-next-end : tie.Need-part-next-end Inv-loop μ-loop
+part-next-end c = search needs
 
-feed-requires : tie.Need-feed-requires Inv-loop μ-loop
-feed-requires c κs = search needs
+next-requires : tie.Need-next-requires Inv-loop μ-loop
+next-requires c κs = search needs
 
 pass-on-requires : tie.Need-pass-on-requires Inv-loop μ-loop
 pass-on-requires c κs = search needs
@@ -69,10 +69,10 @@ answer-all-spec =
     same-length-2
     same-length-3
     returns
-    sub-feed
-    part-feed-start
-    part-feed-end
-    feed-requires
+    sub-next
+    part-next-start
+    part-next-end
+    next-requires
     pass-on-requires
     loop-less
     loop-again)

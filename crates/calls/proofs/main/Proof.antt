@@ -2,7 +2,7 @@
 -- Assumes nothing.
 use native.Mathlib.Omega.{arith}
 use borrow.Author.Needs.{needs}
-use Rattle.calls.proofs.Zeros.{all-count, all-most}
+use Rattle.calls.proofs.Zeros.{all-count, all-within, all-most}
 use Rattle.calls.proofs.main.Statement.{statement}
 use Rattle.calls.proofs.main.Tie as tie
 
@@ -16,10 +16,10 @@ slice-aggregate-answer-all-2 : tie.Need-slice-aggregate-answer-all-2
 slice-aggregate-answer-all-2 c = all-count 99003
 
 slice-aggregate-answer-all-3 : tie.Need-slice-aggregate-answer-all-3
-slice-aggregate-answer-all-3 c = all-count 164539
+slice-aggregate-answer-all-3 c = all-count 99003
 
 answer-all-requires : tie.Need-answer-all-requires
-answer-all-requires c κs = all-most 99003 164539 (omega arith)
+answer-all-requires c κs = (all-within 99003, all-most 99003 99003 (omega arith))
 
 slice-aggregate-report : tie.Need-slice-aggregate-report
 slice-aggregate-report c = search needs

@@ -21,14 +21,8 @@ mul-if1 c = search needs
 add-if1 : tie.Need-add-if1
 add-if1 c = search needs
 
-mul-if1-2 : tie.Need-mul-if1-2
-mul-if1-2 c = search needs
-
 add-if1-2 : tie.Need-add-if1-2
 add-if1-2 c = search needs
-
-mul-if1-3 : tie.Need-mul-if1-3
-mul-if1-3 c = search needs
 
 add-if1-3 : tie.Need-add-if1-3
 add-if1-3 c = search needs
@@ -61,11 +55,9 @@ walk-spec =
     count-at-requires
     count-at-requires-2
     count-at-requires-3
-    mul-if1
     add-if1
-    mul-if1-2
+    mul-if1
     add-if1-2
-    mul-if1-3
     add-if1-3
     put-bad-line-requires
     same-length

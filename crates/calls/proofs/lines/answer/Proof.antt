@@ -9,29 +9,14 @@ use Rattle.calls.proofs.lines.answer.Tie as tie
 slice-aggregate-answer-line : tie.Need-slice-aggregate-answer-line
 slice-aggregate-answer-line c = simp length-take (omega arith)
 
-sub-answer-line : tie.Need-sub-answer-line
-sub-answer-line c = search needs
-
-part-answer-line-start : tie.Need-part-answer-line-start
-part-answer-line-start c = search needs
-
-part-answer-line-end : tie.Need-part-answer-line-end
-part-answer-line-end c = search needs
-
 answer-line-requires : tie.Need-answer-line-requires
-answer-line-requires c κs = search needs
-
-add-out : tie.Need-add-out
-add-out c = search needs
+answer-line-requires c κs = simp length-take (omega arith)
 
 slice-write-out : tie.Need-slice-write-out
 slice-write-out c = search needs
 
 add-result : tie.Need-add-result
 add-result c = search needs
-
-add-result-2 : tie.Need-add-result-2
-add-result-2 c = search needs
 
 same-length : tie.Need-same-length
 same-length c = search needs
@@ -44,13 +29,8 @@ answer-spec =
     tie.close
     (tie.spec
     slice-aggregate-answer-line
-    sub-answer-line
-    part-answer-line-start
-    part-answer-line-end
     answer-line-requires
-    add-out
     slice-write-out
     add-result
-    add-result-2
     same-length
     returns)

@@ -11,8 +11,8 @@ all-count k = sym (length-replicate k 0)
 pub all-within : (k : ℕ) → length (replicate {A = ℕ} k 0) ≤ k
 all-within k = simp length-replicate (omega arith)
 
-pub all-most : (m k : ℕ) → m ≤ k → m ≤ length (replicate {A = ℕ} k 0)
-all-most m k h = simp length-replicate (omega arith)
+pub all-least : (k : ℕ) → k ≤ length (replicate {A = ℕ} k 0)
+all-least k = simp length-replicate (omega arith)
 
 pub front-count : (n k : ℕ) → n ≤ k → n ≡ length (take n (replicate {A = ℕ} k 0))
 front-count n k h = simp (length-take, length-replicate) (omega arith)

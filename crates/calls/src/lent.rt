@@ -12,11 +12,13 @@ use rules::Counted;
 ghost use Prim.Native.Nat.{_+_, _*_, _≤_, _<_, min};
 ghost use lib.ListN.{length};
 
-// The line of a call has a byte and whole words of 8 digits: 2 words at least, and at most so many.
+// The line of a call has a byte and whole words, of 8 digits each.
 const WORD: usize = 8;
 
+// The most words that a line may have.
 const MOST_WORDS: usize = 12375;
 
+// The fewest digits that it may have: a byte and two words.
 const SHORTEST: usize = 18;
 
 // The words before those of a table check or a move count, and before a walk's lists.

@@ -1,8 +1,7 @@
 -- `calls::main` meets its contract.
 -- Assumes nothing.
-use native.Mathlib.Omega.{arith}
 use borrow.Author.Needs.{needs}
-use Rattle.calls.proofs.Zeros.{all-count, all-within, all-most}
+use Rattle.calls.proofs.Zeros.{all-count, all-within, all-least}
 use Rattle.calls.proofs.main.Statement.{statement}
 use Rattle.calls.proofs.main.Tie as tie
 
@@ -19,7 +18,7 @@ slice-aggregate-answer-all-3 : tie.Need-slice-aggregate-answer-all-3
 slice-aggregate-answer-all-3 c = all-count 99003
 
 answer-all-requires : tie.Need-answer-all-requires
-answer-all-requires c κs = (all-within 99003, all-most 99003 99003 (omega arith))
+answer-all-requires c κs = (all-within 99003, all-least 99003)
 
 slice-aggregate-report : tie.Need-slice-aggregate-report
 slice-aggregate-report c = search needs

@@ -2,7 +2,7 @@
 -- Assumes nothing.
 use native.Mathlib.Omega.{arith}
 use borrow.Author.Needs.{needs}
-use Rattle.calls.proofs.Zeros.{all-count, all-most}
+use Rattle.calls.proofs.Zeros.{all-count, all-least}
 use Rattle.calls.proofs.lent.walk.Statement.{statement}
 use Rattle.calls.proofs.lent.walk.Tie as tie
 
@@ -40,13 +40,13 @@ slice-aggregate-put-walk : tie.Need-slice-aggregate-put-walk
 slice-aggregate-put-walk c = all-count 65535
 
 put-walk-requires : tie.Need-put-walk-requires
-put-walk-requires c κs = (omega arith, all-most 65535 65535 (omega arith))
+put-walk-requires c κs = (omega arith, all-least 65535)
 
 same-length-2 : tie.Need-same-length-2
 same-length-2 c = search needs
 
 returns-2 : tie.Need-returns-2
-returns-2 c = search needs
+returns-2 c = c .before .before .before .put-walk .ensures
 
 pub walk-spec : {M : Type 1} → statement M
 walk-spec =

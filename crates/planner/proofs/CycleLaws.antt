@@ -1,8 +1,8 @@
 -- For find_cycle of cycle.rt: a way whose vertices stand in two lists of eighteen places.
 -- Assumes nothing.
-use mathlib.Core.Path.{_≡_}
+use mathlib.Core.Path.{_≡_, sym, _∙_, ap}
 use mathlib.Core.List.{List}
-use Prim.Native.Nat.{ℕ, _+_, _≤_, _<_}
+use Prim.Native.Nat.{ℕ, suc, _+_, _≤_, _<_}
 use native.Mathlib.Omega.{arith}
 use lib.ListN.{length, set}
 use lib.Seq.{getD-set-same, getD-set-other}
@@ -21,6 +21,13 @@ store-below l k v i below = getD-set-other l k i v 0 (λ e. past below e)
   where
     past : i < k → i ≡ k → ⊥
     past p q = omega arith
+
+-- the first task is come to through no core
+pub came-start : (core : ℕ → ℕ) (r : ℕ) → Came core 0 r
+came-start core r i f = absurd (no f)
+  where
+    no : suc i ≡ 0 → ⊥
+    no f = omega arith
 
 module _ (n m : ℕ) (x : ℕ → ℕ → ℕ) (g h : ℕ) where
   module _ (start : ℕ) (r : SeekReady n m x g h start) where
@@ -42,6 +49,13 @@ module _ (n m : ℕ) (x : ℕ → ℕ → ℕ) (g h : ℕ) where
 
   module _ (tasks cores : List ℕ) (k c from : ℕ) (w : Way n m x g h (at tasks) (at cores) k) (o : Other m h (x (at tasks k)) from c)
       (came : Came (at cores) k from) (long : length cores ≡ 18) (short : k ≤ 16) where
+    -- the next task is come to through c
+    pub came-next : Came (at (set cores k c)) (k + 1) c
+    came-next i f = sym (ap (at (set cores k c)) (same f) ∙ store-same cores k c long (omega arith))
+      where
+        same : suc i ≡ k + 1 → i ≡ k
+        same f = omega arith
+
     pub cycle-core : (a : ℕ) → Place (at cores) k c a → a < k → Ring n m x (at tasks) (at (set cores k c)) (a + 1) (k + 1)
     cycle-core =
         ring-by-core n m x g h (at tasks) (at cores) (at (set cores k c)) k c from w o came (store-below cores k c) (store-same cores k c long (omega arith))

@@ -1,6 +1,6 @@
--- For suits, other_core, other_task, place_of and came_from of cycle.rt: the next vertex of a way is sought.
+-- For suits, other_core, other_task and place_of of cycle.rt: the next vertex of a way is sought.
 -- Assumes nothing.
-use mathlib.Core.Path.{_≡_, sym, _∙_, ap, subst}
+use mathlib.Core.Path.{_≡_, sym, _∙_, subst}
 use mathlib.Core.Bool.{Bool, true, false, false≢true}
 use Prim.Native.Nat.{ℕ, zero, suc, _+_, _-_, _*_, _≤_, _<_}
 use native.Mathlib.Decide.{ℕ-discrete}
@@ -12,7 +12,7 @@ use Rattle.rules.specs.Sum.{sumTo, positive}
 use Rattle.rules.specs.Sets.{has}
 use Rattle.forest.specs.Stripping.{there}
 use Rattle.forest.specs.Path.{Other, Place}
-use Rattle.planner.specs.Seeking.{Suits, Came}
+use Rattle.planner.specs.Seeking.{Suits}
 use Rattle.sums.proofs.Pigeon.{sum-one}
 use Rattle.planner.proofs.LinkLaws.{link-empty, link-gone}
 
@@ -88,15 +88,3 @@ module _ (list : ℕ → ℕ) (c v : ℕ) where
     where
       past : j < c → c ≤ j → ⊥
       past p q = omega arith
-
-pub came-none : (core : ℕ → ℕ) (k r : ℕ) → k ≡ 0 → Came core k r
-came-none core k r e i f = absurd (no (f ∙ e))
-  where
-    no : suc i ≡ 0 → ⊥
-    no p = omega arith
-
-pub came-last : (core : ℕ → ℕ) (k r : ℕ) → r ≡ core (k - 1) → Came core k r
-came-last core k r e i f = e ∙ ap core (one f)
-  where
-    one : suc i ≡ k → k - 1 ≡ i
-    one f = omega arith

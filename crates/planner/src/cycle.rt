@@ -5,14 +5,14 @@ use sets::core_in;
 use sets::task_in;
 ghost use mathlib.Core.Path.{_≡_};
 ghost use mathlib.Core.Bool.{false};
-ghost use Prim.Native.Nat.{_+_, _-_, _*_, _≤_, _<_};
+ghost use Prim.Native.Nat.{_+_, _*_, _≤_, _<_};
 ghost use lib.ListN.{length};
 ghost use Rattle.rules.specs.Plan.{at};
 ghost use Rattle.stretches.specs.Cell.{cell};
 ghost use Rattle.forest.specs.Stripping.{links};
 ghost use Rattle.forest.specs.Ring.{Ring};
 ghost use Rattle.forest.specs.Path.{Other, Place};
-ghost use Rattle.planner.specs.Seeking.{Suits, Came, SeekReady};
+ghost use Rattle.planner.specs.Seeking.{Suits, SeekReady};
 
 // Whether a vertex has units, is still there, and is not the one we came from.
 fn suits(units: u32, gone: u64, at: usize, from: usize) -> bool
@@ -73,17 +73,6 @@ fn place_of(list: &[usize; 18], count: usize, value: usize) -> usize
     i
 }
 
-// The core through which the way came to task k; no core at the first task.
-fn came_from(cores: &[usize; 18], k: usize) -> usize
-    requires { ⌜ k ≤ 18 ⌝ }
-    ensures { λ r. ⌜ Came (at (now (cores .entry))) k r ⌝ }
-{
-    if k == 0 {
-        return 16;
-    }
-    cores[k - 1]
-}
-
 // The places of two lists between which a cycle stands: from lo to hi - 1.
 pub(crate) struct Span {
     pub(crate) lo: usize,
@@ -107,10 +96,11 @@ pub(crate) fn find_cycle(
     let cores_gone = gone.cores;
     tasks[0] = start;
     let mut k: usize = 0;
+    // the core through which the way came to task k; none at the first task
+    let mut from: usize = 16;
     loop {
         let next = k + 1;
         let t = tasks[k];
-        let from = came_from(cores, k);
         let c = other_core(units, m, cores_gone, t, from);
         let a = place_of(cores, k, c);
         cores[k] = c;
@@ -127,5 +117,6 @@ pub(crate) fn find_cycle(
         }
         tasks[next] = u;
         k = next;
+        from = c;
     }
 }

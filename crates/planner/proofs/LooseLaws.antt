@@ -1,4 +1,4 @@
--- For stays, loose_task, loose_core and peel of peel.rt: the lowest loose vertex is sought, and one vertex after another goes.
+-- For loose_task, loose_core and peel of peel.rt: the lowest loose vertex is sought, and one vertex after another goes.
 -- Assumes nothing.
 use mathlib.Core.Path.{_≡_, sym, _∙_, subst}
 use mathlib.Core.Bool.{Bool, true, false, true≢false}
@@ -16,18 +16,6 @@ use Rattle.forest.specs.Stripping.{there, links, Fast, Stripping}
 use Rattle.planner.specs.Loose.{FirstLoose}
 use Rattle.forest.proofs.Strip.{strip-task, strip-core, fewer-there}
 
-abbrev pub Stays : ℕ → ℕ → Bool → Type 0
-Stays gone count r = (r ≡ false → gone ≡ 0) × (r ≡ false → count ≤ 1) × (r ≡ true → gone ≡ 0 → 2 ≤ count)
-
-pub stays-there : (gone count : ℕ) → gone ≡ 0 → Stays gone count (leb 2 count)
-stays-there gone count e = (λ f. e, λ f. low (leb-false 2 count f), λ f z. leb-true 2 count f)
-  where
-    low : count < 2 → count ≤ 1
-    low l = omega arith
-
-pub stays-gone : (gone count : ℕ) → (gone ≡ 0 → ⊥) → Stays gone count true
-stays-gone gone count ne = (λ f. absurd (true≢false f), λ f. absurd (true≢false f), λ f z. absurd (ne z))
-
 module _ (gone : ℕ) (count : ℕ → ℕ) where
   -- those below i that are still there have two links at least
   abbrev pub FastBelow : ℕ → Type 0
@@ -36,18 +24,24 @@ module _ (gone : ℕ) (count : ℕ → ℕ) where
   pub fast-none : FastBelow 0
   fast-none k l = below-none (λ k. has gone k ≡ 0 → 2 ≤ count k) k l
 
-  pub fast-more : (i b l : ℕ) (r : Bool) → FastBelow i → b ≡ has gone i → l ≡ count i → Stays b l r → r ≡ true → FastBelow (i + 1)
-  fast-more i b l r h e f s t =
-      below-more (λ k. has gone k ≡ 0 → 2 ≤ count k) i h (λ z. subst (λ (c : ℕ). 2 ≤ c) f (s .2 t (e ∙ z)))
+  -- one more that is gone, and one that has two links
+  pub fast-gone : (i b : ℕ) → FastBelow i → b ≡ has gone i → (b ≡ 0 → ⊥) → FastBelow (i + 1)
+  fast-gone i b h e ne = below-more (λ k. has gone k ≡ 0 → 2 ≤ count k) i h (λ z. absurd (ne (e ∙ z)))
 
-  pub loose-found : (n i b l : ℕ) (r : Bool) → FastBelow i → i < n → b ≡ has gone i → l ≡ count i → Stays b l r → r ≡ false → FirstLoose n gone count i
-  loose-found n i b l r h below e f s t =
+  pub fast-linked : (i l : ℕ) → FastBelow i → l ≡ count i → 2 ≤ l → FastBelow (i + 1)
+  fast-linked i l h e m = below-more (λ k. has gone k ≡ 0 → 2 ≤ count k) i h (λ z. subst (λ (c : ℕ). 2 ≤ c) e m)
+
+  pub loose-found : (n i b l : ℕ) → FastBelow i → i < n → b ≡ has gone i → b ≡ 0 → l ≡ count i → l < 2 → FirstLoose n gone count i
+  loose-found n i b l h below e z f m =
       record {
         within = omega arith;
-        there-still = λ w. sym e ∙ s .0 t;
-        loose = λ w. subst (λ (c : ℕ). c ≤ 1) f (s .1 t);
+        there-still = λ w. sym e ∙ z;
+        loose = λ w. subst (λ (c : ℕ). c ≤ 1) f (low m);
         fast = h;
       }
+    where
+      low : {c : ℕ} → c < 2 → c ≤ 1
+      low m = omega arith
 
   pub loose-none : (n i : ℕ) → FastBelow i → i ≤ n → n ≤ i → FirstLoose n gone count i
   loose-none n i h p q = record { within = p; there-still = λ w. absurd (no w q); loose = λ w. absurd (no w q); fast = h }

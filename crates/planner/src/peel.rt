@@ -53,17 +53,6 @@ pub(crate) fn core_links(units: &[u32; 1024], tasks: usize, gone: u64, core: usi
     count
 }
 
-// Whether a vertex is gone or has two links at least.
-fn stays(gone: u64, links: usize) -> bool
-    requires { ⌜ gone < 2 ⌝ }
-    ensures { λ r. ⌜ (r ≡ false → gone ≡ 0) × (r ≡ false → links ≤ 1) × (r ≡ true → gone ≡ 0 → 2 ≤ links) ⌝ }
-{
-    if gone == 0 {
-        return 2 <= links;
-    }
-    true
-}
-
 // The lowest task that is still there and has at most one link; the number of tasks where there is none.
 fn loose_task(
     units: &[u32; 1024],
@@ -77,14 +66,12 @@ fn loose_task(
 {
     let mut i: usize = 0;
     while i < tasks {
-        if stays(
-            task_in(tasks_gone, i),
-            task_links(units, cores, cores_gone, i),
-        ) {
-            i += 1;
-        } else {
-            return i;
+        if task_in(tasks_gone, i) == 0 {
+            if task_links(units, cores, cores_gone, i) < 2 {
+                return i;
+            }
         }
+        i += 1;
     }
     i
 }
@@ -102,14 +89,12 @@ fn loose_core(
 {
     let mut j: usize = 0;
     while j < cores {
-        if stays(
-            core_in(cores_gone, j) as u64,
-            core_links(units, tasks, tasks_gone, j),
-        ) {
-            j += 1;
-        } else {
-            return j;
+        if core_in(cores_gone, j) == 0 {
+            if core_links(units, tasks, tasks_gone, j) < 2 {
+                return j;
+            }
         }
+        j += 1;
     }
     j
 }

@@ -2,7 +2,8 @@
 use Prim.Native.Nat.{_≤_, _-_}
 use Rattle.stretches.specs.Cell.{cell}
 use Rattle.forest.specs.Stripping.{links}
-use Rattle.planner.proofs.LooseLaws.{FastBelow, fast-none, fast-more, loose-found, loose-none}
+use Rattle.planner.proofs.LooseLaws.{FastBelow, fast-none, fast-gone, fast-linked, loose-found, loose-none}
+use mathlib.Core.Logic.{⊎-elim}
 use borrow.Author.Needs.{needs}
 use Rattle.planner.proofs.peel.loose_core.Statement.{statement}
 use Rattle.planner.proofs.peel.loose_core.Tie as tie
@@ -19,14 +20,11 @@ loop-holds c = (search needs, fast-none _ _)
 core-in-requires : tie.Need-core-in-requires Inv-loop μ-loop
 core-in-requires c κs = search needs
 
-cast-stays : tie.Need-cast-stays Inv-loop μ-loop
-cast-stays c = search needs
-
 core-links-requires : tie.Need-core-links-requires Inv-loop μ-loop
 core-links-requires c κs = search needs
 
-stays-requires : tie.Need-stays-requires Inv-loop μ-loop
-stays-requires c κs = search needs
+returns : tie.Need-returns Inv-loop μ-loop
+returns c = search (loose-found, needs)
 
 add-j : tie.Need-add-j Inv-loop μ-loop
 add-j c = search needs
@@ -35,10 +33,7 @@ loop-less : tie.Need-loop-less Inv-loop μ-loop
 loop-less c = search needs
 
 loop-again : tie.Need-loop-again Inv-loop μ-loop
-loop-again c = (search needs, search (fast-more, needs))
-
-returns : tie.Need-returns Inv-loop μ-loop
-returns c = search (loose-found, needs)
+loop-again c = (search needs, ⊎-elim (λ w. search (fast-linked, needs)) (λ w. search (fast-gone, needs)) (c .if1 .came))
 
 returns-2 : tie.Need-returns-2 Inv-loop μ-loop
 returns-2 c = search (loose-none, needs)
@@ -51,11 +46,9 @@ loose-core-spec =
     μ-loop
     loop-holds
     core-in-requires
-    cast-stays
     core-links-requires
-    stays-requires
+    returns
     add-j
     loop-less
     loop-again
-    returns
     returns-2)

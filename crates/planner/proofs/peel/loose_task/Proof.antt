@@ -2,7 +2,8 @@
 use Prim.Native.Nat.{_≤_, _-_}
 use Rattle.stretches.specs.Cell.{cell}
 use Rattle.forest.specs.Stripping.{links}
-use Rattle.planner.proofs.LooseLaws.{FastBelow, fast-none, fast-more, loose-found, loose-none}
+use Rattle.planner.proofs.LooseLaws.{FastBelow, fast-none, fast-gone, fast-linked, loose-found, loose-none}
+use mathlib.Core.Logic.{⊎-elim}
 use borrow.Author.Needs.{needs}
 use Rattle.planner.proofs.peel.loose_task.Statement.{statement}
 use Rattle.planner.proofs.peel.loose_task.Tie as tie
@@ -22,8 +23,8 @@ task-in-requires c κs = search needs
 task-links-requires : tie.Need-task-links-requires Inv-loop μ-loop
 task-links-requires c κs = search needs
 
-stays-requires : tie.Need-stays-requires Inv-loop μ-loop
-stays-requires c κs = search needs
+returns : tie.Need-returns Inv-loop μ-loop
+returns c = search (loose-found, needs)
 
 add-i : tie.Need-add-i Inv-loop μ-loop
 add-i c = search needs
@@ -32,10 +33,7 @@ loop-less : tie.Need-loop-less Inv-loop μ-loop
 loop-less c = search needs
 
 loop-again : tie.Need-loop-again Inv-loop μ-loop
-loop-again c = (search needs, search (fast-more, needs))
-
-returns : tie.Need-returns Inv-loop μ-loop
-returns c = search (loose-found, needs)
+loop-again c = (search needs, ⊎-elim (λ w. search (fast-linked, needs)) (λ w. search (fast-gone, needs)) (c .if1 .came))
 
 returns-2 : tie.Need-returns-2 Inv-loop μ-loop
 returns-2 c = search (loose-none, needs)
@@ -49,9 +47,8 @@ loose-task-spec =
     loop-holds
     task-in-requires
     task-links-requires
-    stays-requires
+    returns
     add-i
     loop-less
     loop-again
-    returns
     returns-2)

@@ -1,8 +1,8 @@
 -- Laws on the line call: the pieces that an allowed answer has, the set that a decoded line hands to the planner, and each way out.
 -- Assumes nothing.
 use mathlib.Core.Path.{_≡_, refl, sym, subst, _∙_, ap}
-use mathlib.Core.Bool.{Bool, true, false}
-use mathlib.Core.List.{List, [], append-nil}
+use mathlib.Core.Bool.{Bool, true, false, true≢false}
+use mathlib.Core.List.{List, [], _++_}
 use Prim.Native.Nat.{ℕ, _+_, _-_, _*_, _≤_, _<_}
 use native.Mathlib.Omega.{arith}
 use lib.ListN.{length, take, drop, replicate, length-append, length-drop}
@@ -10,16 +10,20 @@ use lib.Seq.{take-at}
 use borrow.Author.Tests.{lt-ltb, le-ltb}
 use Rattle.rules.specs.Piece.{firstPieces}
 use Rattle.rules.specs.Table.{tableOf}
-use Rattle.rules.specs.Tests.{Tested, refused, passed, tested}
+use Rattle.rules.specs.Tests.{Tested, refused as refused-test, passed, tested}
 use Rattle.rules.specs.Plan.{PlanAnswerAt, PlanAnswer, Decided, planned, overloaded}
-use Rattle.rules.specs.Line.{lineFrame, lineCores, lineTasks, lineBudgets, lineMasks, taskFields, wellWritten, bytes, digits, answerRest, answerLine}
-use Rattle.rules.specs.LineCall.{lentTable, LinePlanned, LineAnswerAt, CallDone, CallAnswerAt, CallAnswer}
+use Rattle.rules.specs.Line.{lineFrame, lineCores, lineTasks, lineBudgets, lineMasks, wellWritten, answerLine}
+use Rattle.rules.specs.LineCall.{lentTable, LineAnswerAt, CallDone, CallAnswerAt, CallAnswer}
+use Rattle.rules.specs.declared.Answer.{Answer}
 use Rattle.rules.specs.declared.Answer.the-variants.{BadLine}
 use Rattle.rules.specs.declared.Planned.{Planned}
-use Rattle.fields.specs.Pasted.{pasted}
-use Rattle.aurhennig.specs.Decoded.{Tasked}
-use Rattle.fields.proofs.PastedLaws.{pasted-front}
-use Rattle.aurhennig.proofs.DecodeLaws.{length-tasks}
+use Rattle.setline.specs.ReadSet.{ReadSet, read, refused as refused-set}
+use Rattle.setline.specs.declared.SetRead.{SetRead}
+use Rattle.setline.specs.declared.SetRead.the-variants.{Refused, Set}
+use Rattle.answerline.specs.Put.{PutAnswer, put, refused}
+use Rattle.aurhennig.specs.Answered.{SetAnswered}
+use Rattle.fields.proofs.FieldLaws.{digits-below}
+use Rattle.setline.proofs.DecodeLaws.{length-tasks}
 use Rattle.rules.proofs.Numbers.{length-numbers}
 
 -- the pieces of any answer that the rules allow fit the lent table, as it keeps its length
@@ -32,62 +36,108 @@ module _ (F m : ℕ) (bs ms t₀ : List ℕ) (r : Planned) (t : List ℕ) (same 
   few-decided (overloaded g o) = omega (arith, o .refusal .pieces)
 
   few-at : (w : Tested) → PlanAnswerAt w F m bs ms t₀ r t → 4 * r .pieces ≤ length t₀
-  few-at (refused a) p = omega (arith, p .pieces)
+  few-at (refused-test a) p = omega (arith, p .pieces)
   few-at passed p = few-decided p
 
   pub few-pieces : PlanAnswer F m bs ms t₀ r t → 4 * r .pieces ≤ length t₀
   few-pieces p = few-at (tested F m bs ms t₀) p
 
-  pub few-kept : PlanAnswer F m bs ms t₀ r t → 4 * r .pieces ≤ length t
-  few-kept p = omega (arith, few-pieces p)
+-- the set that a line hands over, or why there is none: the two lists have room for any line's tasks
+frameOf : SetRead → ℕ
+frameOf Refused = 0
+frameOf (Set F m n) = F
 
--- the set that a decoded line hands over
-module _ (l : List ℕ) (n : ℕ) (b₀ b m₀ m : List ℕ) (read : Tasked l n b₀ b m₀ m) where
-  budgets-taken : take n b ≡ taskFields l 0 4 n
-  budgets-taken = ap (take n) (read .budgets) ∙ take-at (taskFields l 0 4 n) (drop n b₀) n (length-tasks l 0 4 n)
+coresOf : SetRead → ℕ
+coresOf Refused = 0
+coresOf (Set F m n) = m
 
-  masks-taken : take n m ≡ taskFields l 4 2 n
-  masks-taken = ap (take n) (read .masks) ∙ take-at (taskFields l 4 2 n) (drop n m₀) n (length-tasks l 4 2 n)
+tasksOf : SetRead → ℕ
+tasksOf Refused = 0
+tasksOf (Set F m n) = n
 
+isSet : SetRead → Bool
+isSet Refused = false
+isSet (Set F m n) = true
+
+-- a set was read: the line is well written, and the set is the line's
+pub record LineRead (l : List ℕ) (F m n : ℕ) (b k : List ℕ) : Type 0 where
+  pub well : wellWritten l ≡ true
+  pub frame : F ≡ lineFrame l
+  pub cores : m ≡ lineCores l
+  pub budgets : take n b ≡ lineBudgets l
+  pub masks : take n k ≡ lineMasks l
+  pub few : n ≤ 255
   pub budgets-count : n ≡ length (take n b)
-  budgets-count = sym (ap length budgets-taken ∙ length-tasks l 0 4 n)
+  pub masks-count : n ≡ length (take n k)
 
-  pub masks-count : n ≡ length (take n m)
-  masks-count = sym (ap length masks-taken ∙ length-tasks l 4 2 n)
+module _ (l b₀ k₀ b k : List ℕ) where
+  pub set-read : (F m n : ℕ) → ReadSet l b₀ k₀ (Set F m n) b k → LineRead l F m n b k
+  unfolding frameOf coresOf tasksOf isSet
+  set-read F m n (read room e eb ek) =
+      let same : n ≡ lineTasks l = ap tasksOf e in
+      let hb : take n b ≡ lineBudgets l = ap (λ (i : ℕ). take i b) same ∙ ap (take (lineTasks l)) eb ∙ take-at (lineBudgets l) (drop (lineTasks l) b₀) (lineTasks l) (length-tasks l 0 4 (lineTasks l)) in
+      let hk : take n k ≡ lineMasks l = ap (λ (i : ℕ). take i k) same ∙ ap (take (lineTasks l)) ek ∙ take-at (lineMasks l) (drop (lineTasks l) k₀) (lineTasks l) (length-tasks l 4 2 (lineTasks l)) in
+      record {
+        well = room .written;
+        frame = ap frameOf e;
+        cores = ap coresOf e;
+        budgets = hb;
+        masks = hk;
+        few = omega (arith, same, digits-below l 10 2);
+        budgets-count = same ∙ sym (ap length hb ∙ length-tasks l 0 4 (lineTasks l));
+        masks-count = same ∙ sym (ap length hk ∙ length-tasks l 4 2 (lineTasks l));
+      }
+  set-read F m n (refused-set bar e eb ek) = absurd (true≢false (ap isSet e))
 
-  pub budgets-handed : n ≡ lineTasks l → take n b ≡ lineBudgets l
-  budgets-handed e = budgets-taken ∙ ap (taskFields l 0 4) e
-
-  pub masks-handed : n ≡ lineTasks l → take n m ≡ lineMasks l
-  masks-handed e = masks-taken ∙ ap (taskFields l 4 2) e
+  pub not-read : 255 ≤ length b₀ → 255 ≤ length k₀ → ReadSet l b₀ k₀ Refused b k → wellWritten l ≡ false
+  unfolding isSet
+  not-read hb hk (read room e eb ek) = absurd (true≢false (sym (ap isSet e)))
+  not-read hb hk (refused-set bar e eb ek) = badly (wellWritten l) refl
+    where
+      badly : (t : Bool) → t ≡ wellWritten l → wellWritten l ≡ false
+      badly false p = sym p
+      badly true p = absurd (bar (record { written = sym p; budgets = omega (arith, hb, digits-below l 10 2); masks = omega (arith, hk, digits-below l 10 2) }))
 
 -- "it lends 95 pieces"
 pub lent : replicate 380 0 ≡ lentTable
 unfolding lentTable
 lent = refl
 
-pub line-planned : (l : List ℕ) (F m : ℕ) (bs ms t₀ : List ℕ) (r : Planned) (t : List ℕ) → F ≡ lineFrame l → m ≡ lineCores l → bs ≡ lineBudgets l → ms ≡ lineMasks l → t₀ ≡ lentTable
-    → PlanAnswer F m bs ms t₀ r t → LinePlanned l (answerLine (r .answer) (firstPieces t (r .pieces)))
-line-planned l F m bs ms t₀ r t eF em eb ek et p =
-    record {
-      answer = r;
-      table = t;
-      planned =
-          subst (λ (x : List ℕ). PlanAnswer (lineFrame l) (lineCores l) (lineBudgets l) (lineMasks l) x r t) et
-          (subst (λ (x : List ℕ). PlanAnswer (lineFrame l) (lineCores l) (lineBudgets l) x t₀ r t) ek
-          (subst (λ (x : List ℕ). PlanAnswer (lineFrame l) (lineCores l) x ms t₀ r t) eb
-          (subst (λ (x : ℕ). PlanAnswer (lineFrame l) x bs ms t₀ r t) em
-          (subst (λ (x : ℕ). PlanAnswer x m bs ms t₀ r t) eF p))));
-      written = refl;
-    }
+-- an answer's line at the front of the output, which has room for it
+module _ (a : Answer) (t : List ℕ) (n : ℕ) (o : List ℕ) (r : ℕ) (x : List ℕ) (long : 1906 ≤ length o) (few : n ≤ 95) (held : 4 * n ≤ length t) where
+  pub was-put : PutAnswer a t n o r x → (r ≡ length (answerLine a (firstPieces t n))) × (x ≡ answerLine a (firstPieces t n) ++ drop (length (answerLine a (firstPieces t n))) o)
+  was-put (put room line e g h) = (g ∙ ap length e, h ∙ ap (λ (z : List ℕ). z ++ drop (length z) o) e)
+  was-put (refused bar g h) = absurd (bar (record { output = long; few = few; held = held }))
 
--- an answer's line at the front of the output
-module _ (l o a : List ℕ) (k : ℕ) (line : List ℕ) (put : a ≡ pasted o 0 line) (long : k ≡ length line) where
-  pub planned-done : wellWritten l ≡ true → LinePlanned l line → CallDone l o k a
-  planned-done e p = record { line = line; answer = subst (λ (t : Bool). LineAnswerAt t l line) (sym e) p; bytes = long; written = put ∙ pasted-front o line }
+-- answer 12 has no pieces
+pub bad-put : (t o : List ℕ) (r : ℕ) (x : List ℕ) → 1906 ≤ length o → PutAnswer BadLine t 0 o r x
+    → (r ≡ length (answerLine BadLine [])) × (x ≡ answerLine BadLine [] ++ drop (length (answerLine BadLine [])) o)
+unfolding firstPieces
+bad-put t o r x h p = was-put BadLine t 0 o r x h (omega arith) (omega arith) p
 
-  pub refused-done : wellWritten l ≡ false → line ≡ answerLine BadLine [] → CallDone l o k a
-  refused-done e p = record { line = line; answer = subst (λ (t : Bool). LineAnswerAt t l line) (sym e) p; bytes = long; written = put ∙ pasted-front o line }
+pub set-answered : (F m : ℕ) (bs ms t₀ : List ℕ) (p : Planned) (t o : List ℕ) (r : ℕ) (x : List ℕ) → t₀ ≡ lentTable → length t ≡ length t₀ → length t ≡ 380 → 1906 ≤ length o
+    → PlanAnswer F m bs ms t₀ p t → PutAnswer (p .answer) t (p .pieces) o r x → SetAnswered F m bs ms o r x
+set-answered F m bs ms t₀ p t o r x lend same long h plan wrote =
+    let few : 4 * p .pieces ≤ length t₀ = few-pieces F m bs ms t₀ p t same plan in
+    let put = was-put (p .answer) t (p .pieces) o r x h (omega (arith, few, same, long)) (omega (arith, few, same)) wrote in
+    record { answer = p; table = t; planned = subst (λ (y : List ℕ). PlanAnswer F m bs ms y p t) lend plan; line = _; shown = refl; bytes = put .0; written = put .1 }
+
+-- a line's set that was answered is the line's answer
+module _ (l o : List ℕ) (r : ℕ) (x : List ℕ) where
+  pub planned-done : (F m n : ℕ) (b k : List ℕ) → LineRead l F m n b k → SetAnswered F m (take n b) (take n k) o r x → CallDone l o r x
+  planned-done F m n b k e p =
+      record {
+        line = p .line;
+        answer = subst (λ (t : Bool). LineAnswerAt t l (p .line)) (sym (e .well)) (record { answer = p .answer; table = p .table; planned = line-planned (p .planned); written = p .shown });
+        bytes = p .bytes;
+        written = p .written;
+      }
+    where
+      line-planned : PlanAnswer F m (take n b) (take n k) lentTable (p .answer) (p .table) → PlanAnswer (lineFrame l) (lineCores l) (lineBudgets l) (lineMasks l) lentTable (p .answer) (p .table)
+      line-planned q = simp (← e .frame, ← e .cores, ← e .budgets, ← e .masks) q
+
+  pub refused-done : wellWritten l ≡ false → (r ≡ length (answerLine BadLine [])) × (x ≡ answerLine BadLine [] ++ drop (length (answerLine BadLine [])) o) → CallDone l o r x
+  refused-done e p = record { line = answerLine BadLine []; answer = subst (λ (t : Bool). LineAnswerAt t l (answerLine BadLine [])) (sym e) refl; bytes = p .0; written = p .1 }
 
 -- "tested before 12: it hands back 0 and writes nothing"
 pub call-short : (l o : List ℕ) → length o < 1906 → CallAnswer l o 0 o
@@ -95,8 +145,3 @@ call-short l o h = subst (λ (t : Bool). CallAnswerAt t l o 0 o) (sym (lt-ltb (l
 
 pub call-done : (l o a : List ℕ) (k : ℕ) → 1906 ≤ length o → CallDone l o k a → CallAnswer l o k a
 call-done l o a k h d = subst (λ (t : Bool). CallAnswerAt t l o k a) (sym (le-ltb (length o) 1906 h)) d
-
--- answer 12's line: two digits
-pub bad-line : (o a : List ℕ) → a ≡ pasted o 0 (bytes 1 12) → (a ≡ pasted o 0 (answerLine BadLine [])) × (2 ≡ length (answerLine BadLine []))
-unfolding answerLine answerRest digits
-bad-line o a e = (e ∙ ap (pasted o 0) (sym (append-nil (bytes 1 12))), refl)

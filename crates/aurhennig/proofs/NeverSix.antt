@@ -18,7 +18,7 @@ use Rattle.rules.specs.LineCall.{lentTable, LineAnswerAt, LineAnswer}
 use Rattle.rules.specs.declared.Answer.the-variants.{FrameLength, CoreCount, TaskCount, Mask, Budget, BadLine}
 use Rattle.rules.specs.declared.Planned.{Planned}
 use Rattle.sums.proofs.Both.{or-left, or-right}
-use Rattle.aurhennig.proofs.Distinct.{number-back}
+use Rattle.answerline.proofs.Distinct.{number-back}
 
 -- at most 64 tasks and 16 cores need at most 95 pieces
 enough : (m : ℕ) (bs ms : List ℕ) → badCores m ≡ false → badTasks bs ms ≡ false → shortTable (length bs) m (wholePieces lentTable) ≡ false

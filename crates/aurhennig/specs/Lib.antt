@@ -1,3 +1,1 @@
-pub mod Decoded
-pub mod SetLine
-pub mod Shown
+pub mod Answered

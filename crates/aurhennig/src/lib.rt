@@ -1,6 +1,4 @@
 // The line call: document 01, "Lines". One line in and one line out, on lent byte slices. Only the call is public.
 mod call;
-mod decode;
-mod encode;
 
 pub use call::aurhennig_plan_line;

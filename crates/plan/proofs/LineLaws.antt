@@ -10,7 +10,7 @@ use lib.ListN.{length, take, drop, set, length-append, length-take, length-drop}
 use lib.Seq.{take-all}
 use borrow.Author.Tests.{le-ltb}
 use Rattle.rules.specs.LineCall.{LineAnswerAt, LineAnswer, CallDone, CallAnswerAt, CallAnswer}
-use Rattle.aurhennig.proofs.DecodeLaws.{line-long}
+use Rattle.setline.proofs.DecodeLaws.{line-long}
 use Rattle.stream.specs.Lines.{Holds, Answered}
 use Rattle.stream.proofs.LineLaws.{written-line}
 

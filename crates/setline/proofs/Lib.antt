@@ -1,0 +1,4 @@
+pub mod DecodeLaws
+pub mod Decoding
+pub mod ReadLaws
+pub mod Unique

@@ -4,6 +4,7 @@ pub mod Check
 pub mod Next
 pub mod Member
 pub mod Reading
+pub mod Accepted
 pub mod Order
 pub mod Rest
 pub mod Moves

@@ -2,4 +2,3 @@ pub mod All
 pub mod Read
 pub mod Next
 pub mod Framed
-pub mod Sizes

@@ -13,7 +13,6 @@ ghost use Rattle.rules.specs.Check.{checkAnswer, movesAnswer};
 ghost use Rattle.table.specs.Read.{pieceOf, together, follows};
 ghost use Rattle.table.specs.Next.{sooner, nextPiece};
 ghost use Rattle.table.specs.Framed.{Framed};
-ghost use Rattle.table.specs.Sizes.{sizesPass};
 
 // One piece of a table: on this core this task runs from start on for len units.
 pub(crate) struct Stretch {
@@ -174,17 +173,17 @@ pub(crate) fn is_sooner(table: &[u32], task: u32, from: u32, best: usize, k: usi
     requires { ⌜ k < wholePieces (now table) ⌝ }
     ensures { λ r. ⌜ r ≡ sooner (now (table .entry)) task from best k ⌝ }
 {
-    let p = piece_at(table, k);
-    if p.task != task {
+    if table[4 * k + 1] != task {
         return false;
     }
-    if p.start < from {
+    let start = table[4 * k + 2];
+    if start < from {
         return false;
     }
     if table.len() / 4 <= best {
         return true;
     }
-    p.start < piece_at(table, best).start
+    start < table[4 * best + 2]
 }
 
 // Of the task's pieces that start at `from` or later, the number of the one that starts first; the number of pieces where there is none.
@@ -221,13 +220,15 @@ pub(crate) fn task_moves(table: &[u32], task: u32) -> usize
     if n <= k {
         return 0;
     }
-    let mut core = piece_at(table, k).core;
+    let mut core = table[4 * k];
     let mut count: usize = 0;
     while k < n {
-        let p = piece_at(table, k);
-        count += changed(core, p.core);
-        core = p.core;
-        from = p.start + p.len;
+        let next = table[4 * k];
+        let start = table[4 * k + 2];
+        let len = table[4 * k + 3];
+        count += changed(core, next);
+        core = next;
+        from = start + len;
         k = next_piece(table, task, from);
     }
     count
@@ -247,35 +248,14 @@ pub(crate) fn table_moves(table: &[u32]) -> usize
     total
 }
 
-// The tests 1 and 2.
-pub(crate) fn sizes_pass(frame: u32, cores: u32) -> bool
-    ensures { λ r. ⌜ r ≡ sizesPass frame cores ⌝ }
-{
-    if frame == 0 {
-        return false;
-    }
-    if 1_000_000 < frame {
-        return false;
-    }
-    if cores == 0 {
-        return false;
-    }
-    cores <= 16
-}
-
-// The moves of a frame table, and 0 beside a refusal.
+// The moves of a frame table, and 0 beside a refusal. The number of the check's answer decides, so that a new answer changes nothing here.
 pub fn count_moves(frame: u32, cores: u32, table: &[u32]) -> Counted
     ensures { λ r. ⌜ r ≡ movesAnswer frame cores (now (table .entry)) ⌝ }
 {
-    if !sizes_pass(frame, cores) {
+    let checked = check_table(frame, cores, table);
+    if rules::number(checked) != 0 {
         return Counted {
-            answer: check_table(frame, cores, table),
-            moves: 0,
-        };
-    }
-    if !is_table(frame, cores, table) {
-        return Counted {
-            answer: Answer::NotTable,
+            answer: checked,
             moves: 0,
         };
     }

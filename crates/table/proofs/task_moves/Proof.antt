@@ -18,14 +18,50 @@ next-piece-requires c κs = search needs
 returns : tie.Need-returns Inv-loop μ-loop
 returns c = (search (counting-none, needs), search needs)
 
-piece-at-requires : tie.Need-piece-at-requires Inv-loop μ-loop
-piece-at-requires c κs = search needs
+mul-core : tie.Need-mul-core Inv-loop μ-loop
+mul-core c = search needs
+
+mul-core-2 : tie.Need-mul-core-2 Inv-loop μ-loop
+mul-core-2 c = search needs
+
+shared-slice-read-core : tie.Need-shared-slice-read-core Inv-loop μ-loop
+shared-slice-read-core c = search needs
 
 loop-holds : tie.Need-loop-holds Inv-loop μ-loop
 loop-holds c = search (counting-first, needs)
 
-piece-at-requires-2 : tie.Need-piece-at-requires-2 Inv-loop μ-loop
-piece-at-requires-2 c κs = search needs
+mul-next : tie.Need-mul-next Inv-loop μ-loop
+mul-next c = search needs
+
+mul-next-2 : tie.Need-mul-next-2 Inv-loop μ-loop
+mul-next-2 c = search needs
+
+shared-slice-read-next : tie.Need-shared-slice-read-next Inv-loop μ-loop
+shared-slice-read-next c = search needs
+
+mul-start : tie.Need-mul-start Inv-loop μ-loop
+mul-start c = search needs
+
+add-start : tie.Need-add-start Inv-loop μ-loop
+add-start c = search needs
+
+mul-start-2 : tie.Need-mul-start-2 Inv-loop μ-loop
+mul-start-2 c = search needs
+
+shared-slice-read-start : tie.Need-shared-slice-read-start Inv-loop μ-loop
+shared-slice-read-start c = search needs
+
+mul-len : tie.Need-mul-len Inv-loop μ-loop
+mul-len c = search needs
+
+add-len : tie.Need-add-len Inv-loop μ-loop
+add-len c = search needs
+
+mul-len-2 : tie.Need-mul-len-2 Inv-loop μ-loop
+mul-len-2 c = search needs
+
+shared-slice-read-len : tie.Need-shared-slice-read-len Inv-loop μ-loop
+shared-slice-read-len c = search needs
 
 changed-requires : tie.Need-changed-requires Inv-loop μ-loop
 changed-requires c κs = search needs
@@ -56,9 +92,21 @@ task-moves-spec =
     μ-loop
     next-piece-requires
     returns
-    piece-at-requires
+    mul-core
+    mul-core-2
+    shared-slice-read-core
     loop-holds
-    piece-at-requires-2
+    mul-next
+    mul-next-2
+    shared-slice-read-next
+    mul-start
+    add-start
+    mul-start-2
+    shared-slice-read-start
+    mul-len
+    add-len
+    mul-len-2
+    shared-slice-read-len
     changed-requires
     add-count
     add-from

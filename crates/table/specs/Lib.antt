@@ -1,4 +1,2 @@
 pub mod All
 pub mod Read
-pub mod Next
-pub mod Framed

@@ -1,9 +1,9 @@
--- `table::is_sooner` meets its contract: each need is answered by a law of the crate's proofs.
+-- `moves::is_sooner` meets its contract: each need is answered by a law of the crate's proofs.
 -- Assumes nothing.
-use Rattle.table.proofs.Next.{sooner-task, sooner-early, sooner-first, sooner-start}
+use Rattle.moves.proofs.Next.{sooner-task, sooner-early, sooner-first, sooner-start}
 use borrow.Author.Needs.{needs}
-use Rattle.table.proofs.is_sooner.Statement.{statement}
-use Rattle.table.proofs.is_sooner.Tie as tie
+use Rattle.moves.proofs.is_sooner.Statement.{statement}
+use Rattle.moves.proofs.is_sooner.Tie as tie
 
 mul-if1 : tie.Need-mul-if1
 mul-if1 c = search needs

@@ -22,13 +22,13 @@ use Rattle.rules.specs.declared.Answer.the-variants.{Accepted, FrameLength, Cor
 use Rattle.rules.specs.declared.Counted.{Counted}
 use Rattle.sums.proofs.Inserted.{length-insert}
 use Rattle.stretches.proofs.Readings.{Sound}
 use Rattle.table.proofs.All.{length-first}
 use Rattle.table.proofs.Reading.{table-reads}
 use Rattle.table.proofs.Accepted.{check-accepted, frame-short}
-use Rattle.table.specs.Next.{nextPiece}
-use Rattle.table.specs.Framed.{Framed}
-use Rattle.table.proofs.Member.{by-start-own, by-start-other}
-use Rattle.table.proofs.Rest.{rest, next-rest, next-last, rest-whole, next-from}
+use Rattle.moves.specs.Next.{nextPiece}
+use Rattle.moves.specs.Framed.{Framed}
+use Rattle.moves.proofs.Member.{by-start-own, by-start-other}
+use Rattle.moves.proofs.Rest.{rest, next-rest, next-last, rest-whole, next-from}
 
 -- a task has no more pieces than the table
 pub length-by-start : (t : ℕ) (ps : List Piece) → length (byStart t ps) ≤ length ps

@@ -15,10 +15,10 @@ use borrow.Author.Tests.{le-leb, lt-leb, lt-ltb, le-ltb}
 use Rattle.rules.specs.Piece.{Piece, pieceAt, piecesOf, wholePieces}
 use Rattle.rules.specs.FrameTable.{frameTable}
 use Rattle.rules.specs.Moves.{byStart}
-use Rattle.table.specs.Next.{nextTo, nextPiece}
-use Rattle.table.proofs.Next.{sooner-task, sooner-early, sooner-first, sooner-start, next-better, next-same}
-use Rattle.table.proofs.Member.{In, in-by-start, by-start-in, in-first, first-in}
-use Rattle.table.proofs.Order.{Chain, chain-start, chain-of-table}
+use Rattle.moves.specs.Next.{nextTo, nextPiece}
+use Rattle.moves.proofs.Next.{sooner-task, sooner-early, sooner-first, sooner-start, next-better, next-same}
+use Rattle.moves.proofs.Member.{In, in-by-start, by-start-in, in-first, first-in}
+use Rattle.moves.proofs.Order.{Chain, chain-start, chain-of-table}
 
 -- the pieces of the list that start at e or later
 unfoldable pub rest : ℕ → List Piece → List Piece

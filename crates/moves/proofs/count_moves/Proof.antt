@@ -1,9 +1,9 @@
--- `table::count_moves` meets its contract: each need is answered by a law of the crate's proofs.
+-- `moves::count_moves` meets its contract: each need is answered by a law of the crate's proofs.
 -- Assumes nothing.
-use Rattle.table.proofs.Moves.{counted-refused, counted-moves, counted-framed}
+use Rattle.moves.proofs.Moves.{counted-refused, counted-moves, counted-framed}
 use borrow.Author.Needs.{needs}
-use Rattle.table.proofs.count_moves.Statement.{statement}
-use Rattle.table.proofs.count_moves.Tie as tie
+use Rattle.moves.proofs.count_moves.Statement.{statement}
+use Rattle.moves.proofs.count_moves.Tie as tie
 
 check-table-requires : tie.Need-check-table-requires
 check-table-requires c κs = search needs

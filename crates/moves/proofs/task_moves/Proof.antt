@@ -1,10 +1,10 @@
--- `table::task_moves` meets its contract: each need is answered by a law of the crate's proofs.
+-- `moves::task_moves` meets its contract: each need is answered by a law of the crate's proofs.
 -- Assumes nothing.
 use Prim.Native.Nat.{_-_}
-use Rattle.table.proofs.Moves.{Counting, counting-none, counting-first, end-fits, counting-less, counting-fits, counting-more, counting-done}
+use Rattle.moves.proofs.Moves.{Counting, counting-none, counting-first, end-fits, counting-less, counting-fits, counting-more, counting-done}
 use borrow.Author.Needs.{needs}
-use Rattle.table.proofs.task_moves.Statement.{statement}
-use Rattle.table.proofs.task_moves.Tie as tie
+use Rattle.moves.proofs.task_moves.Statement.{statement}
+use Rattle.moves.proofs.task_moves.Tie as tie
 
 abbrev Inv-loop : tie.InvT-loop
 Inv-loop table task n from₀ k₀ core₀ count₀ from k core count = Counting table task core from count k

@@ -10,7 +10,7 @@ use lib.Dec.{ltb}
 use lib.ListN.{length, getD}
 use borrow.Author.Tests.{le-leb, lt-leb, eq-eqb, ne-eqb}
 use Rattle.rules.specs.Piece.{Piece, pieceAt}
-use Rattle.table.specs.Next.{soonerOf, sooner, nextTo, nextPiece}
+use Rattle.moves.specs.Next.{soonerOf, sooner, nextTo, nextPiece}
 
 module _ (task from : ℕ) (p : Piece) where
   other-task : (n : Bool) (b : Piece) → (p .task ≡ task → ⊥) → false ≡ soonerOf task from n p b

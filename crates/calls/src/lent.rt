@@ -37,7 +37,7 @@ fn ask_table(line: &[u8], shown: usize, words: &mut [u32]) -> Counted
     let frame = word_at(line, 1);
     let cores = word_at(line, 5);
     if shown == 1 {
-        return table::count_moves(frame, cores, words);
+        return moves::count_moves(frame, cores, words);
     }
     Counted {
         answer: table::check_table(frame, cores, words),

@@ -1,10 +1,6 @@
 pub mod Answers
 pub mod All
 pub mod Check
-pub mod Next
-pub mod Member
 pub mod Reading
-pub mod Order
-pub mod Rest
-pub mod Moves
+pub mod Accepted
 pub mod Unique

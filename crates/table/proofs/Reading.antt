@@ -1,20 +1,18 @@
 -- What a frame table is, read as facts about its pieces.
 -- Assumes nothing.
-use mathlib.Core.Path.{_≡_, sym, _∙_, ap}
+use mathlib.Core.Path.{_≡_, sym, _∙_}
 use mathlib.Core.Bool.{Bool, true, _&&_}
-use mathlib.Core.List.{List, _∷_}
-use mathlib.Core.Logic.{inl, inr}
+use mathlib.Core.List.{List}
 use Prim.Native.Nat.{ℕ, _%_, _≤_, _<_}
 use lib.Dec.{eqb, leb}
 use lib.ListN.{length}
 use borrow.Author.Tests.{leb-true, eqb-true}
-use Rattle.rules.specs.Piece.{Piece, pieceAt, wholePieces}
-use Rattle.rules.specs.FrameTable.{every, sound, ordered, coreApart, taskApart, frameTable}
+use Rattle.rules.specs.Piece.{pieceAt, wholePieces}
+use Rattle.rules.specs.FrameTable.{sound, ordered, coreApart, taskApart, frameTable}
 use Rattle.table.specs.Read.{together, follows, passes}
 use Rattle.sums.proofs.Both.{and-left, and-right}
 use Rattle.stretches.proofs.Readings.{Sound, Disjoint, InOrder, sound-reads, ordered-reads, core-apart-reads, task-apart-reads}
 use Rattle.table.proofs.All.{all-true, frame-table-passes}
-use Rattle.table.proofs.Member.{In}
 
 -- the facts of a frame table
 pub record TableReads (F m : ℕ) (l : List ℕ) : Type 0 where
@@ -58,9 +56,3 @@ module _ (F m : ℕ) (l : List ℕ) where
 
       two : (j k : ℕ) → j < k → k < wholePieces l → (ordered (pieceAt l j) (pieceAt l k) && apart j k) ≡ true
       two j k g h = all-true k (λ i. ordered (pieceAt l i) (pieceAt l k) && apart i k) (and-right (sound F m (pieceAt l k)) (follows l k) (at k h)) j g
-
--- a test that every piece of a list passes, at one of them
-pub every-in : (t : Piece → Bool) (ps : List Piece) (p : Piece) → every t ps ≡ true → In p ps → t p ≡ true
-unfolding every
-every-in t (q ∷ ps) p e (inl d) = ap t d ∙ and-left (t q) (every t ps) e
-every-in t (q ∷ ps) p e (inr i) = every-in t ps p (and-right (t q) (every t ps) e) i

@@ -1,5 +1,2 @@
 pub mod All
 pub mod Read
-pub mod Next
-pub mod Framed
-pub mod Sizes

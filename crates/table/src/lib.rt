@@ -1,19 +1,13 @@
-// The table check and the move count over any lent table: one flat list, four numbers a piece (core, task, start, length).
+// The table check over any lent table: one flat list, four numbers a piece (core, task, start, length).
 // Nothing of a lent table is trusted: each length, each number is tested before it counts.
 use rules::Answer;
-use rules::Counted;
 ghost use mathlib.Core.Path.{_≡_};
-ghost use mathlib.Core.Bool.{true, false, _&&_, cond};
-ghost use Prim.Native.Nat.{_+_, _*_, _/_, _<_, _≤_};
-ghost use lib.Dec.{eqb};
-ghost use Rattle.rules.specs.Piece.{pieceAt, piecesOf, wholePieces};
+ghost use mathlib.Core.Bool.{_&&_};
+ghost use Prim.Native.Nat.{_<_};
+ghost use Rattle.rules.specs.Piece.{pieceAt, wholePieces};
 ghost use Rattle.rules.specs.FrameTable.{sound, ordered, overlap, coreApart, taskApart, frameTable};
-ghost use Rattle.rules.specs.Moves.{byStart, changes, moves};
-ghost use Rattle.rules.specs.Check.{checkAnswer, movesAnswer};
+ghost use Rattle.rules.specs.Check.{checkAnswer};
 ghost use Rattle.table.specs.Read.{pieceOf, together, follows};
-ghost use Rattle.table.specs.Next.{sooner, nextPiece};
-ghost use Rattle.table.specs.Framed.{Framed};
-ghost use Rattle.table.specs.Sizes.{sizesPass};
 
 // One piece of a table: on this core this task runs from start on for len units.
 pub(crate) struct Stretch {
@@ -167,120 +161,4 @@ pub fn check_table(frame: u32, cores: u32, table: &[u32]) -> Answer
         return Answer::Accepted;
     }
     Answer::NotTable
-}
-
-// Piece k comes into question: the task's, at `from` or later, and sooner than the best so far.
-pub(crate) fn is_sooner(table: &[u32], task: u32, from: u32, best: usize, k: usize) -> bool
-    requires { ⌜ k < wholePieces (now table) ⌝ }
-    ensures { λ r. ⌜ r ≡ sooner (now (table .entry)) task from best k ⌝ }
-{
-    let p = piece_at(table, k);
-    if p.task != task {
-        return false;
-    }
-    if p.start < from {
-        return false;
-    }
-    if table.len() / 4 <= best {
-        return true;
-    }
-    p.start < piece_at(table, best).start
-}
-
-// Of the task's pieces that start at `from` or later, the number of the one that starts first; the number of pieces where there is none.
-pub fn next_piece(table: &[u32], task: u32, from: u32) -> usize
-    ensures { λ r. ⌜ r ≡ nextPiece (now (table .entry)) task from ⌝ }
-{
-    let n = table.len() / 4;
-    let mut best = n;
-    let mut k: usize = 0;
-    while k < n {
-        if is_sooner(table, task, from, best, k) {
-            best = k;
-        }
-        k += 1;
-    }
-    best
-}
-
-// "a move is a piece whose core differs from the piece before it": 1 for a move, else 0.
-pub(crate) fn changed(core: u32, next: u32) -> usize
-    ensures { λ r. ⌜ r ≡ cond (eqb core next) 0 1 ⌝ }
-{
-    if core == next { 0 } else { 1 }
-}
-
-// "for each task, list its pieces by start within the frame": its moves. The first piece is compared with itself.
-pub(crate) fn task_moves(table: &[u32], task: u32) -> usize
-    requires { ⌜ Framed (now table) ⌝ }
-    ensures { λ r. ⌜ (r ≡ changes (byStart task (piecesOf (now (table .entry))))) × (r ≤ 95) ⌝ }
-{
-    let n = table.len() / 4;
-    let mut from: u32 = 0;
-    let mut k = next_piece(table, task, from);
-    if n <= k {
-        return 0;
-    }
-    let mut core = piece_at(table, k).core;
-    let mut count: usize = 0;
-    while k < n {
-        let p = piece_at(table, k);
-        count += changed(core, p.core);
-        core = p.core;
-        from = p.start + p.len;
-        k = next_piece(table, task, from);
-    }
-    count
-}
-
-// "The move count is the sum over tasks."
-pub(crate) fn table_moves(table: &[u32]) -> usize
-    requires { ⌜ Framed (now table) ⌝ }
-    ensures { λ r. ⌜ r ≡ moves (piecesOf (now (table .entry))) ⌝ }
-{
-    let mut total: usize = 0;
-    let mut task: u32 = 0;
-    while task < 64 {
-        total += task_moves(table, task);
-        task += 1;
-    }
-    total
-}
-
-// The tests 1 and 2.
-pub(crate) fn sizes_pass(frame: u32, cores: u32) -> bool
-    ensures { λ r. ⌜ r ≡ sizesPass frame cores ⌝ }
-{
-    if frame == 0 {
-        return false;
-    }
-    if 1_000_000 < frame {
-        return false;
-    }
-    if cores == 0 {
-        return false;
-    }
-    cores <= 16
-}
-
-// The moves of a frame table, and 0 beside a refusal.
-pub fn count_moves(frame: u32, cores: u32, table: &[u32]) -> Counted
-    ensures { λ r. ⌜ r ≡ movesAnswer frame cores (now (table .entry)) ⌝ }
-{
-    if !sizes_pass(frame, cores) {
-        return Counted {
-            answer: check_table(frame, cores, table),
-            moves: 0,
-        };
-    }
-    if !is_table(frame, cores, table) {
-        return Counted {
-            answer: Answer::NotTable,
-            moves: 0,
-        };
-    }
-    Counted {
-        answer: Answer::Accepted,
-        moves: table_moves(table),
-    }
 }

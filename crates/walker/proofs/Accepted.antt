@@ -1,13 +1,11 @@
 -- What an accepted walk says: the tests passed, and each place holds its job's finish. The bound and a worked call follow.
 -- Assumes nothing.
 use mathlib.Core.Path.{_≡_, refl, sym, _∙_, ap}
-use mathlib.Core.Bool.{Bool, true, false, cond, _&&_, _||_, true≢false}
+use mathlib.Core.Bool.{Bool, true, false, cond, _&&_, true≢false}
 use mathlib.Core.List.{List}
 use Prim.Native.Nat.{ℕ, suc, _+_, _*_, _≤_, _<_}
-use native.Mathlib.Omega.{arith}
 use lib.Dec.{eqb, ltb}
 use lib.ListN.{length, getD}
-use borrow.Author.Tests.{eqb-false}
 use Rattle.rules.specs.Tests.{refused, passed, badFrame, badCores}
 use Rattle.rules.specs.Piece.{piecesOf}
 use Rattle.rules.specs.FrameTable.{frameTable}
@@ -16,6 +14,7 @@ use Rattle.rules.specs.Jobs.{badJobCount, firstBadJob, firstAsking}
 use Rattle.rules.specs.Walked.{walkTested, WalkRefusal, WalkDone, WalkAnswerAt, WalkAnswer}
 use Rattle.rules.specs.declared.Answer.{Answer}
 use Rattle.rules.specs.declared.Answer.the-variants.{Accepted, FrameLength, CoreCount, NotTable, JobList, NoUnits, ShortFinishes}
+use Rattle.table.proofs.Accepted.{frame-some}
 use Rattle.walker.specs.Jobs.{accepts}
 use Rattle.walker.proofs.Bound.{finish-by-release-plus-period-plus-frame, finish-by-release-plus-period}
 
@@ -45,15 +44,7 @@ module _ (F m : ℕ) (table : List ℕ) (task : ℕ) (releases jobs before : Lis
       (JobList (firstBadJob releases jobs)) (NoUnits (firstAsking jobs)) refl refl answer
 
   pub accepted-frame : 1 ≤ F
-  unfolding badFrame
-  accepted-frame = above (eqb-false _ _ (left (eqb F 0) (ltb 1000000 F) (all .0 .0)))
-    where
-      left : (a b : Bool) → (a || b) ≡ false → a ≡ false
-      left true b h = absurd (true≢false h)
-      left false b h = refl
-
-      above : (F ≡ 0 → ⊥) → 1 ≤ F
-      above h = omega arith
+  accepted-frame = frame-some F (all .0 .0)
 
   pub accepted-done : WalkDone F table task releases jobs before r after
   accepted-done = all .1

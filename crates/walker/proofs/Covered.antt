@@ -15,10 +15,9 @@ use Rattle.rules.specs.FrameTable.{every, everyTwo, sound, ordered, coreApart, 
 use Rattle.rules.specs.Moves.{insert, byStart}
 use Rattle.rules.specs.Service.{covers, covered}
 use Rattle.sums.proofs.Both.{and-left, and-right}
-use Rattle.table.proofs.Member.{In, by-start-own, by-start-other, in-by-start}
 use Rattle.sums.proofs.Inserted.{insert-later, insert-here}
 use Rattle.stretches.proofs.Readings.{Disjoint, task-apart-reads}
-use Rattle.table.proofs.Reading.{every-in}
+use Rattle.moves.proofs.Member.{In, by-start-own, by-start-other, in-by-start, every-in}
 use Rattle.walker.specs.Served.{inside}
 use Rattle.walker.proofs.Units.{inside-in, inside-before, inside-after}
 

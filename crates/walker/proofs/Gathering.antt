@@ -14,12 +14,12 @@ use Rattle.rules.specs.Piece.{Piece, pieceAt, piecesOf, wholePieces}
 use Rattle.rules.specs.Moves.{byStart}
 use Rattle.rules.specs.Service.{units}
 use Rattle.sums.proofs.Sum.{sum-cong}
-use Rattle.table.specs.Next.{nextPiece}
-use Rattle.table.proofs.All.{length-first}
 use Rattle.stretches.proofs.Readings.{Sound}
+use Rattle.table.proofs.All.{length-first}
 use Rattle.table.proofs.Reading.{table-reads}
-use Rattle.table.proofs.Rest.{rest, next-rest, next-last, rest-whole, next-from}
-use Rattle.table.proofs.Moves.{length-by-start}
+use Rattle.moves.specs.Next.{nextPiece}
+use Rattle.moves.proofs.Rest.{rest, next-rest, next-last, rest-whole, next-from}
+use Rattle.moves.proofs.Moves.{length-by-start}
 use Rattle.walker.specs.Served.{inside, unitTo, unitsOf}
 use Rattle.walker.specs.Gathered.{FrameOf, Gathered}
 use Rattle.walker.proofs.Covered.{insides, table-covered}

@@ -1,7 +1,7 @@
 -- The answers of a walk: one law for each return.
 -- Assumes nothing.
 use mathlib.Core.Path.{_≡_, refl, sym, _∙_, ap}
-use mathlib.Core.Bool.{Bool, true, false, cond, not, _&&_, _||_, true≢false}
+use mathlib.Core.Bool.{Bool, true, false, cond, not, _&&_, true≢false}
 use mathlib.Core.List.{List}
 use Prim.Native.Nat.{ℕ, _+_, _*_, _≤_, _<_, min}
 use native.Mathlib.Nat.{le-refl}
@@ -10,7 +10,7 @@ use native.Mathlib.Omega.{arith}
 use lib.Dec.{eqb, ltb}
 use lib.ListN.{length, getD, take}
 use lib.Seq.{length-take-le}
-use borrow.Author.Tests.{lt-ltb, le-ltb, eq-eqb, ne-eqb, ltb-false, eqb-false, not-true, not-false}
+use borrow.Author.Tests.{lt-ltb, le-ltb, eq-eqb, ne-eqb, ltb-false, eqb-true, not-true, not-false}
 use Rattle.rules.specs.Tests.{Tested, refused, passed, badFrame, badCores}
 use Rattle.rules.specs.Piece.{piecesOf}
 use Rattle.rules.specs.FrameTable.{frameTable}
@@ -21,6 +21,7 @@ use Rattle.rules.specs.Check.{checkAnswer}
 use Rattle.rules.specs.Walked.{walkTested, WalkAnswerAt, WalkAnswer}
 use Rattle.rules.specs.declared.Answer.{Answer}
 use Rattle.rules.specs.declared.Answer.the-variants.{Accepted, FrameLength, CoreCount, NotTable, JobList, NoUnits, ShortFinishes}
+use Rattle.table.proofs.Accepted.{check-accepted, frame-some, frame-short}
 use Rattle.walker.specs.Served.{servedTo, unitsOf}
 use Rattle.walker.specs.Least.{FinishBy}
 use Rattle.walker.specs.Step.{Ready}
@@ -135,37 +136,13 @@ module _ (F m : ℕ) (l : List ℕ) (task : ℕ) (releases jobs before : List �
 
   module _ (y : not t ≡ false) where
     accepted : (badFrame F ≡ false) × (badCores m ≡ false) × (frameTable F m l ≡ true)
-    unfolding checkAnswer
-    accepted = go (badFrame F) (badCores m) (frameTable F m l) (ap accepts (sym checked) ∙ sym test ∙ not-false t y)
-      where
-        go : (b c f : Bool) → accepts (cond b FrameLength (cond c CoreCount (cond f Accepted NotTable))) ≡ true → (b ≡ false) × (c ≡ false) × (f ≡ true)
-        go true c f h = absurd (true≢false (sym h))
-        go false true f h = absurd (true≢false (sym h))
-        go false false true h = (refl, refl, refl)
-        go false false false h = absurd (true≢false (sym h))
+    accepted = check-accepted F m l (eqb-true _ _ (ap accepts (sym checked) ∙ sym test ∙ not-false t y))
 
     past-table : walkTested F m l task releases jobs before ≡ after-table
     past-table = split ∙ rw (accepted .0, accepted .1, accepted .2)
 
     pub walk-frame : FrameOf F l
-    unfolding badFrame
-    walk-frame =
-        record {
-          cores = m;
-          some = above (eqb-false _ _ (frame .0));
-          short = ltb-false _ _ (frame .1);
-          table = accepted .2;
-        }
-      where
-        either : (a b : Bool) → (a || b) ≡ false → (a ≡ false) × (b ≡ false)
-        either true b h = absurd (true≢false h)
-        either false b h = (refl, h)
-
-        frame : (eqb F 0 ≡ false) × (ltb 1000000 F ≡ false)
-        frame = either (eqb F 0) (ltb 1000000 F) (accepted .0)
-
-        above : (F ≡ 0 → ⊥) → 1 ≤ F
-        above h = omega arith
+    walk-frame = record { cores = m; some = frame-some F (accepted .0); short = frame-short F (accepted .0); table = accepted .2 }
 
     module _ (b : Answer) (u : Bool) (listed : b ≡ jobsAnswer releases jobs) (test′ : u ≡ accepts b) where
       pub walk-bad-jobs : not u ≡ true → WalkAnswer F m l task releases jobs before b before

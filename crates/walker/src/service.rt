@@ -90,7 +90,7 @@ pub(crate) fn gather(
     let n = table.len() / 4;
     let mut count: usize = 0;
     let mut from: u32 = 0;
-    let mut k = table::next_piece(table, task, from);
+    let mut k = moves::next_piece(table, task, from);
     while k < n {
         let start = table[4 * k + 2];
         let len = table[4 * k + 3];
@@ -98,7 +98,7 @@ pub(crate) fn gather(
         lens[count] = len;
         count += 1;
         from = start + len;
-        k = table::next_piece(table, task, from);
+        k = moves::next_piece(table, task, from);
     }
     count
 }

@@ -14,9 +14,8 @@ use Rattle.rules.specs.Piece.{Piece, piecesOf}
 use Rattle.rules.specs.FrameTable.{every, everyTwo, sound, ordered, coreApart, taskApart, framePieces, frameTable}
 use Rattle.rules.specs.Moves.{insert, byStart}
 use Rattle.sums.proofs.Both.{and-left, and-right}
-use Rattle.table.proofs.Member.{In, by-start-own, by-start-other, in-by-start}
+use Rattle.moves.proofs.Member.{In, by-start-own, by-start-other, in-by-start, every-in}
 use Rattle.stretches.proofs.Readings.{Disjoint, task-apart-reads, sound-reads}
-use Rattle.table.proofs.Reading.{every-in}
 use Rattle.sums.proofs.Inserted.{insert-later, insert-here}
 
 -- no piece before b; each has a length, and starts at the end of the one before it or later

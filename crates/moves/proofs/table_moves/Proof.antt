@@ -1,10 +1,10 @@
--- `table::table_moves` meets its contract: each need is answered by a law of the crate's proofs.
+-- `moves::table_moves` meets its contract: each need is answered by a law of the crate's proofs.
 -- Assumes nothing.
 use Prim.Native.Nat.{_-_}
-use Rattle.table.proofs.Moves.{Summed, summed-none, summed-more, summed-done}
+use Rattle.moves.proofs.Moves.{Summed, summed-none, summed-more, summed-done}
 use borrow.Author.Needs.{needs}
-use Rattle.table.proofs.table_moves.Statement.{statement}
-use Rattle.table.proofs.table_moves.Tie as tie
+use Rattle.moves.proofs.table_moves.Statement.{statement}
+use Rattle.moves.proofs.table_moves.Tie as tie
 
 abbrev Inv-loop : tie.InvT-loop
 Inv-loop table total₀ task₀ total task = Summed table total task

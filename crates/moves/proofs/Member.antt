@@ -1,6 +1,7 @@
 -- Membership in a list of pieces, through the rules' lists: the first pieces of a lent list, and a task's pieces by start.
 -- Assumes nothing.
 use mathlib.Core.Path.{_≡_, refl, sym, _∙_, ap}
+use mathlib.Core.Bool.{Bool, true}
 use mathlib.Core.List.{List, [], _∷_, _++_}
 use mathlib.Core.Logic.{_⊎_, inl, inr, ⊎-elim}
 use Prim.Native.Nat.{ℕ, zero, suc, _<_}
@@ -9,7 +10,9 @@ use native.Mathlib.Decide.{ℕ-discrete, decLe}
 use native.Mathlib.Omega.{arith}
 use borrow.Author.Tests.{eq-eqb, ne-eqb}
 use Rattle.rules.specs.Piece.{Piece, pieceAt, firstPieces}
+use Rattle.rules.specs.FrameTable.{every}
 use Rattle.rules.specs.Moves.{insert, byStart}
+use Rattle.sums.proofs.Both.{and-left, and-right}
 use Rattle.sums.proofs.Inserted.{insert-later, insert-here}
 
 -- p stands in the list
@@ -114,3 +117,9 @@ first-in l (suc c) k h =
       | yes e ↦ append-right (pieceAt l k) (firstPieces l c) (pieceAt l c ∷ []) (inl (ap (pieceAt l) e))
       | no e ↦ append-left (pieceAt l k) (firstPieces l c) (pieceAt l c ∷ []) (first-in l c k (omega arith))
     ]
+
+-- a test that every piece of a list passes, at one of them
+pub every-in : (t : Piece → Bool) (ps : List Piece) (p : Piece) → every t ps ≡ true → In p ps → t p ≡ true
+unfolding every
+every-in t (q ∷ ps) p e (inl d) = ap t d ∙ and-left (t q) (every t ps) e
+every-in t (q ∷ ps) p e (inr i) = every-in t ps p (and-right (t q) (every t ps) e) i

@@ -1,9 +1,9 @@
--- `table::changed` meets its contract: each need is answered by a law of the crate's proofs.
+-- `moves::changed` meets its contract: each need is answered by a law of the crate's proofs.
 -- Assumes nothing.
-use Rattle.table.proofs.Moves.{same-core, other-core}
+use Rattle.moves.proofs.Moves.{same-core, other-core}
 use borrow.Author.Needs.{needs}
-use Rattle.table.proofs.changed.Statement.{statement}
-use Rattle.table.proofs.changed.Tie as tie
+use Rattle.moves.proofs.changed.Statement.{statement}
+use Rattle.moves.proofs.changed.Tie as tie
 
 returns : tie.Need-returns
 returns c = search (same-core, needs)

@@ -15,10 +15,10 @@ use borrow.Author.Tests.{le-leb, lt-leb, lt-ltb, le-ltb}
 use Rattle.rules.specs.Piece.{Piece, pieceAt, piecesOf, wholePieces}
 use Rattle.rules.specs.FrameTable.{frameTable}
 use Rattle.rules.specs.Moves.{byStart}
-use Rattle.table.specs.Next.{nextTo, nextPiece}
-use Rattle.table.proofs.Next.{sooner-task, sooner-early, sooner-first, sooner-start, next-better, next-same}
-use Rattle.table.proofs.Member.{In, in-by-start, by-start-in, in-first, first-in}
-use Rattle.table.proofs.Order.{Chain, chain-start, chain-of-table}
+use Rattle.moves.specs.Next.{nextTo, nextPiece}
+use Rattle.moves.proofs.Next.{sooner-task, sooner-early, sooner-first, sooner-start, next-better, next-same}
+use Rattle.moves.proofs.Member.{In, in-by-start, by-start-in, in-first, first-in}
+use Rattle.moves.proofs.Order.{Chain, chain-start, chain-of-table}
 
 -- the pieces of the list that start at e or later
 unfoldable pub rest : ℕ → List Piece → List Piece
@@ -108,12 +108,12 @@ module _ (l : List ℕ) (task from : ℕ) where
       step best e g =
           elim (ℕ-discrete (pieceAt l c .task) task) [
             | no t ↦
-                found-same c best _ g (sym (rw add-one at (next-same l task from best c best false e (sooner-task l task from best c (pieceAt l c) refl t) refl refl)))
+                found-same c best _ g (sym (rw add-one at (next-same l task from best c best false e (sooner-task l task from best c t) refl refl)))
                 (λ i. absurd (t (i .0)))
             | yes t ↦
                 elim (decLe from (pieceAt l c .start)) [
                   | no n ↦
-                      found-same c best _ g (sym (rw add-one at (next-same l task from best c best false e (sooner-early l task from best c (pieceAt l c) refl t (omega arith)) refl refl)))
+                      found-same c best _ g (sym (rw add-one at (next-same l task from best c best false e (sooner-early l task from best c t (omega arith)) refl refl)))
                       (λ i. absurd (n (i .1)))
                   | yes n ↦ in-question best e g t n
                 ]
@@ -121,17 +121,17 @@ module _ (l : List ℕ) (task from : ℕ) where
         where
           in-question : (best : ℕ) → best ≡ nextTo l task from c → Found c best → pieceAt l c .task ≡ task → from ≤ pieceAt l c .start → Found (suc c) (nextTo l task from (suc c))
           in-question best e (nothing d f) t n =
-              new _ (sym (rw add-one at (next-better l task from best c c true e (sooner-first l task from best c (pieceAt l c) refl t n (omega arith)) refl refl))) (t, n)
+              new _ (sym (rw add-one at (next-better l task from best c c true e (sooner-first l task from best c t n (omega arith)) refl refl))) (t, n)
               (λ k h i. absurd (f k h i))
           in-question best e (piece r i f) t n =
               elim (decLt (pieceAt l c .start) (pieceAt l best .start)) [
                 | yes s ↦
                     new _
-                    (sym (rw add-one at (next-better l task from best c c true e (sooner-start l task from best c (pieceAt l c) refl (pieceAt l best) true t n (omega arith) refl (sym (lt-ltb _ _ s))) refl refl))) (t, n)
+                    (sym (rw add-one at (next-better l task from best c c true e (sooner-start l task from best c t n true (omega arith) (sym (lt-ltb _ _ s))) refl refl))) (t, n)
                     (λ k h j. omega (arith, f k h j))
                 | no s ↦
                     found-same c best _ (piece r i f)
-                    (sym (rw add-one at (next-same l task from best c best false e (sooner-start l task from best c (pieceAt l c) refl (pieceAt l best) false t n (omega arith) refl (sym (le-ltb (pieceAt l c .start) (pieceAt l best .start) (omega arith)))) refl refl)))
+                    (sym (rw add-one at (next-same l task from best c best false e (sooner-start l task from best c t n false (omega arith) (sym (le-ltb (pieceAt l c .start) (pieceAt l best .start) (omega arith)))) refl refl)))
                     (λ j. (omega arith, omega arith))
               ]
 

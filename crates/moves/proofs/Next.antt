@@ -3,14 +3,14 @@
 use mathlib.Core.Path.{_≡_, _∙_, ap}
 use mathlib.Core.Bool.{Bool, true, false}
 use mathlib.Core.List.{List}
-use Prim.Native.Nat.{ℕ, _+_, _/_, _≤_, _<_}
+use Prim.Native.Nat.{ℕ, _+_, _*_, _/_, _≤_, _<_}
 use native.Mathlib.Nat.{le-antisymm}
 use native.Mathlib.Numerals.{add-one}
 use lib.Dec.{ltb}
-use lib.ListN.{length}
+use lib.ListN.{length, getD}
 use borrow.Author.Tests.{le-leb, lt-leb, eq-eqb, ne-eqb}
 use Rattle.rules.specs.Piece.{Piece, pieceAt}
-use Rattle.table.specs.Next.{soonerOf, sooner, nextTo, nextPiece}
+use Rattle.moves.specs.Next.{soonerOf, sooner, nextTo, nextPiece}
 
 module _ (task from : ℕ) (p : Piece) where
   other-task : (n : Bool) (b : Piece) → (p .task ≡ task → ⊥) → false ≡ soonerOf task from n p b
@@ -29,23 +29,25 @@ module _ (task from : ℕ) (p : Piece) where
   unfolding soonerOf
   by-start q e h = rw (eq-eqb _ _ e, le-leb _ _ h)
 
-module _ (l : List ℕ) (task from best k : ℕ) (p : Piece) (at-k : p ≡ pieceAt l k) where
-  pub sooner-task : (p .task ≡ task → ⊥) → false ≡ sooner l task from best k
+-- the numbers of piece k as they stand in the lent list
+module _ (l : List ℕ) (task from best k : ℕ) where
+  pub sooner-task : (getD l (4 * k + 1) 0 ≡ task → ⊥) → false ≡ sooner l task from best k
   unfolding sooner
-  sooner-task h = rw (← at-k) (other-task task from p _ _ h)
+  sooner-task h = other-task task from (pieceAt l k) _ _ h
 
-  pub sooner-early : p .task ≡ task → p .start < from → false ≡ sooner l task from best k
-  unfolding sooner
-  sooner-early e h = rw (← at-k) (too-early task from p _ _ e h)
+  module _ (own : getD l (4 * k + 1) 0 ≡ task) where
+    pub sooner-early : getD l (4 * k + 2) 0 < from → false ≡ sooner l task from best k
+    unfolding sooner
+    sooner-early h = too-early task from (pieceAt l k) _ _ own h
 
-  pub sooner-first : p .task ≡ task → from ≤ p .start → length l / 4 ≤ best → true ≡ sooner l task from best k
-  unfolding sooner
-  sooner-first e h b = rw (← at-k, le-leb _ _ b) (the-first task from p _ e h)
+    module _ (late : from ≤ getD l (4 * k + 2) 0) where
+      pub sooner-first : length l / 4 ≤ best → true ≡ sooner l task from best k
+      unfolding sooner
+      sooner-first b = rw (le-leb _ _ b) (the-first task from (pieceAt l k) _ own late)
 
-  pub sooner-start : (q : Piece) (t : Bool) → p .task ≡ task → from ≤ p .start → best < length l / 4 → q ≡ pieceAt l best
-      → t ≡ ltb (p .start) (q .start) → t ≡ sooner l task from best k
-  unfolding sooner
-  sooner-start q t e h b at-b f = f ∙ rw (← at-b, ← at-k, lt-leb _ _ b) (by-start task from p _ e h)
+      pub sooner-start : (t : Bool) → best < length l / 4 → t ≡ ltb (getD l (4 * k + 2) 0) (getD l (4 * best + 2) 0) → t ≡ sooner l task from best k
+      unfolding sooner
+      sooner-start t b f = f ∙ rw (lt-leb _ _ b) (by-start task from (pieceAt l k) (pieceAt l best) own late)
 
 module _ (l : List ℕ) (task from : ℕ) where
   pub next-none : (n : ℕ) → n ≡ length l / 4 → n ≡ nextTo l task from 0

@@ -1,13 +1,13 @@
--- `table::next_piece` meets its contract: each need is answered by a law of the crate's proofs.
+-- `moves::next_piece` meets its contract: each need is answered by a law of the crate's proofs.
 -- Assumes nothing.
 use mathlib.Core.Path.{_≡_}
 use mathlib.Core.Logic.{⊎-elim}
 use Prim.Native.Nat.{_≤_, _-_}
-use Rattle.table.specs.Next.{nextTo}
-use Rattle.table.proofs.Next.{next-none, next-better, next-same, next-done}
+use Rattle.moves.specs.Next.{nextTo}
+use Rattle.moves.proofs.Next.{next-none, next-better, next-same, next-done}
 use borrow.Author.Needs.{needs}
-use Rattle.table.proofs.next_piece.Statement.{statement}
-use Rattle.table.proofs.next_piece.Tie as tie
+use Rattle.moves.proofs.next_piece.Statement.{statement}
+use Rattle.moves.proofs.next_piece.Tie as tie
 
 abbrev Inv-loop : tie.InvT-loop
 Inv-loop table task from n best₀ k₀ best k = (k ≤ n) × (best ≡ nextTo table task from k)

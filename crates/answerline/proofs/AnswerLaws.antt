@@ -15,7 +15,8 @@ use Rattle.rules.specs.Answer.{numberOf}
 use Rattle.rules.specs.Line.{bytes, pieceLines, answerRest, answerLine}
 use Rattle.fields.specs.Pasted.{pasted}
 use Rattle.fields.proofs.PastedLaws.{length-digits, pasted-twice, pasted-none}
-use Rattle.answerline.proofs.PieceLaws.{length-pieces, length-first}
+use Rattle.rules.proofs.Numbers.{length-first}
+use Rattle.answerline.proofs.PieceLaws.{length-pieces}
 
 -- o₁ is o with the rest l of a line, which ends at r
 abbrev pub Ends : List ℕ → List ℕ → ℕ → List ℕ → Type 0

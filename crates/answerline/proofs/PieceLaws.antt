@@ -2,13 +2,14 @@
 -- Assumes nothing.
 use mathlib.Core.Path.{_≡_, refl, sym, _∙_, ap}
 use mathlib.Core.List.{List, [], _∷_, _++_, append-assoc, append-nil}
-use Prim.Native.Nat.{ℕ, zero, suc, _+_, _*_, _≤_}
+use Prim.Native.Nat.{ℕ, _+_, _*_, _≤_}
 use native.Mathlib.Numerals.{add-one, unary-clauses}
 use native.Mathlib.Omega.{arith}
 use lib.ListN.{length, getD, length-append}
 use Rattle.rules.specs.Piece.{Piece, pieceAt, firstPieces}
 use Rattle.rules.specs.Line.{bytes, pieceLine, pieceLines}
 use Rattle.fields.specs.Pasted.{pasted}
+use Rattle.rules.proofs.Numbers.{length-first}
 use Rattle.fields.proofs.PastedLaws.{length-digits, pasted-twice, pasted-none}
 
 four : (o : List ℕ) (p : ℕ) (a b c d : List ℕ) → length a ≡ 2 → length b ≡ 2 → length c ≡ 8 → p + 20 ≤ length o
@@ -43,11 +44,6 @@ pub length-pieces : (ps : List Piece) → length (pieceLines ps) ≡ 20 * length
 unfolding pieceLines
 length-pieces [] = refl
 length-pieces (p ∷ ps) = simp (length-append, length-piece, length-pieces ps, unary-clauses) (omega arith)
-
-pub length-first : (t : List ℕ) (c : ℕ) → length (firstPieces t c) ≡ c
-unfolding firstPieces
-length-first t zero = refl
-length-first t (suc c) = simp (length-append, length-first t c, unary-clauses)
 
 pub pieces-none : (o t : List ℕ) → o ≡ pasted o 6 (pieceLines (firstPieces t 0))
 unfolding pieceLines firstPieces

@@ -17,6 +17,7 @@ use Rattle.forest.specs.Peeled.{Peeled}
 use Rattle.forest.proofs.Forest.{left-pos, right-pos}
 use Rattle.sums.proofs.Lowest.{lowest-hit, lowest-none}
 use Rattle.sums.proofs.Order.{zero-of}
+use Rattle.stretches.proofs.Visits.{unvisited-below}
 use Rattle.stretches.proofs.Reaching.{same-refl, meet-none, meet-old, meet-fresh}
 use Rattle.frames.proofs.ReachedOnce.{Laid, Kept, kept-trans, Growing, newTasks, newCores, laid-kept, after-visited, after-kept, after-met-more, after-met-here, after-growing}
 
@@ -108,24 +109,14 @@ module _ (n m : ℕ) (x : ℕ → ℕ → ℕ) where
             way = inl (left-pos (w .reached (lowest m (waiting n m x w))) (cond (eqb (w .visited (lowest m (waiting n m x w))) 0) 1 0) (lowest-hit m (waiting n m x w) h));
           }
 
-      full : m ≤ lowest m (unvisited n m x w) → ⊥
-      full h = omega (arith, s .counted, sum-const m 1, sum-le m {f = λ k. 1} {g = w .visited} (λ k b. flag (w .visited k) (lowest-none m (unvisited n m x w) h k b)))
-        where
-          flag : (a : ℕ) → _≡_ {A = ℕ} (cond (eqb a 0) 1 0) 0 → 1 ≤ a
-          flag zero e = absurd (omega arith)
-          flag (suc a) e = omega arith
-
       second : m ≤ lowest m (waiting n m x w) → Next w (lowest m (unvisited n m x w))
       second g =
-          elim (decLt (lowest m (unvisited n m x w)) m) [
-            | no h ↦ absurd (full (omega arith))
-            | yes h ↦
-                record {
-                  below = h;
-                  unseen = positive-flag (w .visited (lowest m (unvisited n m x w))) (lowest-hit m (unvisited n m x w) h);
-                  way = inr (λ k b r. seen-of (w .reached k) (w .visited k) r (lowest-none m (waiting n m x w) g k b));
-                }
-          ]
+          let h = unvisited-below n m x w (omega (arith, s .counted)) in
+          record {
+            below = h;
+            unseen = positive-flag (w .visited (lowest m (unvisited n m x w))) (lowest-hit m (unvisited n m x w) h);
+            way = inr (λ k b r. seen-of (w .reached k) (w .visited k) r (lowest-none m (waiting n m x w) g k b));
+          }
         where
           seen-of : (a b : ℕ) → 0 < a → a * cond (eqb b 0) 1 0 ≡ 0 → 0 < b
           seen-of a zero h e = absurd (omega (arith, mul-one a))

@@ -19,26 +19,19 @@ use Rattle.rules.specs.Allocation.{limitOf, Allocation}
 use Rattle.rules.specs.Obeys.{allowed, Obeys}
 use Rattle.sums.proofs.Sum.{sum-cong, sum-zero, sum-add, sum-put, sum-put-past, sum-count}
 use Rattle.stretches.proofs.PieceLists.{Every, Pairs, every-map, total}
+use Rattle.sums.proofs.Both.{and-left, and-right}
 use Rattle.frames.proofs.Parts.{Clear}
 use Rattle.frames.proofs.Budgets.{weight, weight-own, weight-other, units-are-weight}
-
-both-left : (a b : Bool) → (a && b) ≡ true → a ≡ true
-both-left true b e = refl
-both-left false b e = e
-
-pub both-right : (a b : Bool) → (a && b) ≡ true → b ≡ true
-both-right true b e = e
-both-right false b e = absurd (false≢true e)
 
 every-reads : (f : Piece → Bool) (l : List Piece) → every f l ≡ true → Every (λ p. f p ≡ true) l
 unfolding every
 every-reads f [] e = tt
-every-reads f (p ∷ l) e = (both-left (f p) (every f l) e, every-reads f l (both-right (f p) (every f l) e))
+every-reads f (p ∷ l) e = (and-left (f p) (every f l) e, every-reads f l (and-right (f p) (every f l) e))
 
 pairs-read : (r : Piece → Piece → Bool) (l : List Piece) → everyTwo r l ≡ true → Pairs (λ p q. r p q ≡ true) l
 unfolding everyTwo
 pairs-read r [] e = tt
-pairs-read r (p ∷ l) e = (every-reads (r p) l (both-left (every (r p) l) (everyTwo r l) e), pairs-read r l (both-right (every (r p) l) (everyTwo r l) e))
+pairs-read r (p ∷ l) e = (every-reads (r p) l (and-left (every (r p) l) (everyTwo r l) e), pairs-read r l (and-right (every (r p) l) (everyTwo r l) e))
 
 -- pieces that do not overlap
 apart-reads : (p q : Piece) (b : Bool) → not (b && overlap p q) ≡ true → b ≡ true → (p .start + p .len ≤ q .start) ⊎ (q .start + q .len ≤ p .start)
@@ -171,7 +164,7 @@ outside-none n mask i j z p e =
       | yes c ↦
           rw (eq-eqb j (p .core) c)
           (weight-other i p
-          (λ t. wrong z (subst (λ (k : ℕ). has (mask k) j ≡ 1) t (subst (λ (k : ℕ). has (mask (p .task)) k ≡ 1) (sym c) (eqb-true _ _ (both-right (ltb (p .task) n) (eqb (has (mask (p .task)) (p .core)) 1) e))))))
+          (λ t. wrong z (subst (λ (k : ℕ). has (mask k) j ≡ 1) t (subst (λ (k : ℕ). has (mask (p .task)) k ≡ 1) (sym c) (eqb-true _ _ (and-right (ltb (p .task) n) (eqb (has (mask (p .task)) (p .core)) 1) e))))))
       | no ne ↦ rw (ne-eqb j (p .core) ne) refl
     ]
   where

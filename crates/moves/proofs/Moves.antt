@@ -22,7 +22,7 @@ use Rattle.rules.specs.declared.Answer.the-variants.{Accepted, FrameLength, Cor
 use Rattle.rules.specs.declared.Counted.{Counted}
 use Rattle.sums.proofs.Inserted.{length-insert}
 use Rattle.stretches.proofs.Readings.{Sound}
-use Rattle.table.proofs.All.{length-first}
+use Rattle.rules.proofs.Numbers.{length-first}
 use Rattle.table.proofs.Reading.{table-reads}
 use Rattle.table.proofs.Accepted.{check-accepted, frame-short}
 use Rattle.moves.specs.Next.{nextPiece}

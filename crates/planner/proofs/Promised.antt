@@ -35,7 +35,8 @@ use Rattle.overload.proofs.Exists.{allocation-or-overload, overloaded-exactly-w
 use Rattle.overload.proofs.NoRoom.{smallest-group-is-unique}
 use Rattle.forest.proofs.Unlooped.{allocation-without-loops}
 use Rattle.stretches.proofs.Numbers.{pieces-of-numbers}
-use Rattle.frames.proofs.NoTable.{both-right, table-is-allocation}
+use Rattle.sums.proofs.Both.{and-right}
+use Rattle.frames.proofs.NoTable.{table-is-allocation}
 use Rattle.overload.proofs.NoZero.{smallest-holds-no-zero}
 use Rattle.tests.proofs.PassedLaws.{passed-ready}
 
@@ -72,7 +73,7 @@ module _ (F n m : ℕ) (budget mask : ℕ → ℕ) (x : ℕ → ℕ → ℕ) (so
   unfolding frameTable
   table-pieces =
       subst (λ (ps : List Piece). framePieces F m ps ≡ true) (pieces-of-numbers (tableOf F n m x))
-      (both-right (eqb (length (numbersOf (tableOf F n m x)) % 4) 0) (framePieces F m (piecesOf (numbersOf (tableOf F n m x)))) (table-is-frame-table F n m x ready))
+      (and-right (eqb (length (numbersOf (tableOf F n m x)) % 4) 0) (framePieces F m (piecesOf (numbersOf (tableOf F n m x)))) (table-is-frame-table F n m x ready))
 
   pub table-obeys : Obeys F n m budget mask (tableOf F n m x)
   table-obeys =

@@ -4,7 +4,6 @@ use sets::task_in;
 use sets::with_core;
 use sets::with_task;
 ghost use mathlib.Core.Path.{_≡_};
-ghost use mathlib.Core.Bool.{true, false};
 ghost use Prim.Native.Nat.{_-_, _*_, _≤_, _<_};
 ghost use Rattle.rules.specs.Sum.{positive};
 ghost use Rattle.stretches.specs.Cell.{cell};

@@ -13,6 +13,7 @@ use borrow.Author.Tests.{le-leb, lt-leb, eq-eqb, ne-eqb, eqb-true}
 use Rattle.rules.specs.Line.{field, lineFrame, lineCores, lineTasks, taskFields, allDigits, wellWritten}
 use Rattle.fields.specs.Held.{heldField, pastField}
 use Rattle.setline.specs.Decoded.{Tasked}
+use Rattle.sums.proofs.Both.{and-right}
 use Rattle.fields.proofs.FieldLaws.{held-field, held-past, digits-below}
 
 -- the fields before the tasks, as a reader takes them one after another
@@ -116,14 +117,6 @@ module _ (l : List ℕ) where
         line-last t h e = simp (le-leb (length l) 3072 few, ← digits, all, eq-eqb (length l % 2) 0 even, le-leb 12 (length l) h, e)
 
 -- what a well-written line has
-and-left : (p q : Bool) → p && q ≡ true → p ≡ true
-and-left true q e = refl
-and-left false q e = e
-
-and-right : (p q : Bool) → p && q ≡ true → q ≡ true
-and-right true q e = e
-and-right false q e = cc
-
 module _ (l : List ℕ) (e : wellWritten l ≡ true) where
   pub written-length : length l ≡ 2 * (6 + 6 * lineTasks l)
   unfolding wellWritten

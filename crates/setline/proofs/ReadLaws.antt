@@ -1,11 +1,11 @@
 -- Laws on each way out of the reading of a set's line.
 -- Assumes nothing.
-use mathlib.Core.Path.{_≡_, refl, sym, subst, _∙_, ap}
+use mathlib.Core.Path.{_≡_, refl, sym, _∙_}
 use mathlib.Core.Bool.{true, false, true≢false}
-use mathlib.Core.List.{List, _++_}
+use mathlib.Core.List.{List}
 use Prim.Native.Nat.{ℕ, _≤_, _<_}
 use native.Mathlib.Omega.{arith}
-use lib.ListN.{length, drop}
+use lib.ListN.{length}
 use Rattle.rules.specs.Line.{lineTasks, wellWritten}
 use Rattle.setline.specs.Decoded.{Headed, Tasked}
 use Rattle.setline.specs.ReadSet.{Room, ReadSet, read, refused}

@@ -36,14 +36,10 @@ module _ (n m : ℕ) (x : ℕ → ℕ → ℕ) where
   unfolding visit visitMark
   visit-visited j w = meet-visited j n (visitMark n m x j w)
 
-  -- a core is left, and so the next core is one that there is
-  pub next-below : (w : Walk) → sumTo m (w .visited) < m → nextCore n m x w < m
-  unfolding nextCore unvisited
-  next-below w few =
-      elim (decLt (lowest m (waiting n m x w)) m) [
-        | yes h ↦ rw (lt-ltb (lowest m (waiting n m x w)) m h, nextCore) h
-        | no g ↦ rw (le-ltb (lowest m (waiting n m x w)) m (omega arith), nextCore) left
-      ]
+  -- a core is left
+  pub unvisited-below : (w : Walk) → sumTo m (w .visited) < m → lowest m (unvisited n m x w) < m
+  unfolding unvisited
+  unvisited-below w few = elim (decLt (lowest m (unvisited n m x w)) m) [ yes h ↦ h | no g ↦ absurd (full (omega arith)) ]
     where
       full : m ≤ lowest m (unvisited n m x w) → ⊥
       full h = omega (arith, sum-const m 1, sum-le m {f = λ k. 1} {g = w .visited} (λ k b. flag (w .visited k) (lowest-none m (unvisited n m x w) h k b)))
@@ -52,8 +48,14 @@ module _ (n m : ℕ) (x : ℕ → ℕ → ℕ) where
           flag zero e = absurd (omega arith)
           flag (suc a) e = omega arith
 
-      left : lowest m (unvisited n m x w) < m
-      left = elim (decLt (lowest m (unvisited n m x w)) m) [ yes h ↦ h | no g ↦ absurd (full (omega arith)) ]
+  -- and so the next core is one that there is
+  pub next-below : (w : Walk) → sumTo m (w .visited) < m → nextCore n m x w < m
+  unfolding nextCore
+  next-below w few =
+      elim (decLt (lowest m (waiting n m x w)) m) [
+        | yes h ↦ rw (lt-ltb (lowest m (waiting n m x w)) m h, nextCore) h
+        | no g ↦ rw (le-ltb (lowest m (waiting n m x w)) m (omega arith), nextCore) (unvisited-below w few)
+      ]
 
   -- after c visits at most c cores are marked
   visits-counted : (c : ℕ) → c ≤ m → sumTo m (visits n m x c .visited) ≤ c

@@ -1,7 +1,7 @@
 -- Small facts on the order of numbers that proofs of any crate want, where the library has none.
 -- Assumes nothing.
 use mathlib.Core.Path.{_≡_, refl}
-use Prim.Native.Nat.{ℕ, zero, suc, _+_, _≤_, _<_}
+use Prim.Native.Nat.{ℕ, zero, suc, _+_, _<_}
 use native.Mathlib.Nat.{not-suc-le-zero}
 use native.Mathlib.Omega.{arith}
 
@@ -17,10 +17,6 @@ zero-not-one e f = omega arith
 
 pub zero-not-positive : {a : ℕ} → a ≡ 0 → 0 < a → ⊥
 zero-not-positive e l = omega arith
-
--- the one number from t up to t + 1
-pub only-at : (t u : ℕ) → t ≤ u → u < t + 1 → u ≡ t
-only-at t u l k = omega arith
 
 -- a number up to n + 1 that is not n
 pub before-last : {k n : ℕ} → k < n + 1 → (k ≡ n → ⊥) → k < n

@@ -9,10 +9,11 @@ use native.Mathlib.Decide.{ℕ-discrete}
 use native.Mathlib.Numerals.{add-one}
 use native.Mathlib.Omega.{arith}
 use lib.Dec.{eqb, leb}
-use lib.ListN.{length, length-append}
+use lib.ListN.{length}
 use Rattle.rules.specs.Piece.{Piece, pieceAt, firstPieces, wholePieces}
 use Rattle.rules.specs.FrameTable.{every, everyTwo, framePieces, frameTable}
 use Rattle.sums.proofs.Both.{and-left, and-right, and-both}
+use Rattle.rules.proofs.Numbers.{length-first}
 use Rattle.table.specs.All.{allTo}
 use Rattle.table.specs.Read.{together, follows, passes}
 
@@ -92,11 +93,6 @@ module _ (l : List ℕ) where
   every-two-first r zero = refl
   every-two-first r (suc c) =
       every-two-snoc r (firstPieces l c) (pieceAt l c) ∙ ap₂ _&&_ (every-two-first r c) (every-first (λ b. r b (pieceAt l c)) c)
-
-  pub length-first : (c : ℕ) → length (firstPieces l c) ≡ c
-  unfolding firstPieces
-  length-first zero = refl
-  length-first (suc c) = length-append (firstPieces l c) (pieceAt l c ∷ []) ∙ omega (arith, length-first c)
 
   -- the frame table, as the code tests it
   pub frame-table-passes : (F m : ℕ) → frameTable F m l ≡ (eqb (length l % 4) 0 && (leb (wholePieces l) 95 && passes F m l (wholePieces l)))

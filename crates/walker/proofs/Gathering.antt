@@ -15,7 +15,7 @@ use Rattle.rules.specs.Moves.{byStart}
 use Rattle.rules.specs.Service.{units}
 use Rattle.sums.proofs.Sum.{sum-cong}
 use Rattle.stretches.proofs.Readings.{Sound}
-use Rattle.table.proofs.All.{length-first}
+use Rattle.rules.proofs.Numbers.{length-first}
 use Rattle.table.proofs.Reading.{table-reads}
 use Rattle.moves.specs.Next.{nextPiece}
 use Rattle.moves.proofs.Rest.{rest, next-rest, next-last, rest-whole, next-from}

@@ -7,7 +7,7 @@ ghost use lib.ListN.{length};
 // The first `count` values, of `width` bytes each, after the number. Hands back where the line ends.
 fn put_values(out: &mut [u8], values: &[u64], count: usize, width: usize) -> usize
     requires { ⌜ (width ≤ 8) × (count ≤ length (now values)) × (count ≤ 6187) ⌝ }
-    ensures { λ r. ⌜ r ≤ 99002 ⌝ }
+    ensures { λ r. ⌜ r ≤ 2 + 16 * count ⌝ }
 {
     let mut at = 2;
     let mut i = 0;
@@ -21,7 +21,7 @@ fn put_values(out: &mut [u8], values: &[u64], count: usize, width: usize) -> usi
 
 // The job after the number. Hands back where the line ends.
 fn put_job(out: &mut [u8], job: usize) -> usize
-    ensures { λ r. ⌜ r ≤ 99002 ⌝ }
+    ensures { λ r. ⌜ r ≤ 10 ⌝ }
 {
     put_field(out, 2, 4, job as u64);
     10
@@ -36,7 +36,7 @@ pub(crate) fn put_answer(
     width: usize,
 ) -> usize
     requires { ⌜ (width ≤ 8) × (count ≤ length (now values)) × (count ≤ 6187) ⌝ }
-    ensures { λ r. ⌜ r ≤ 99002 ⌝ }
+    ensures { λ r. ⌜ r ≤ 10 + 16 * count ⌝ }
 {
     put_field(out, 0, 1, rules::number(answer) as u64);
     match answer {
@@ -48,7 +48,7 @@ pub(crate) fn put_answer(
 
 // "A line that is not so written .. is answered `0c`."
 pub(crate) fn put_bad_line(out: &mut [u8]) -> usize
-    ensures { λ r. ⌜ r ≤ 99002 ⌝ }
+    ensures { λ r. ⌜ r ≤ 10 ⌝ }
 {
     put_field(out, 0, 1, rules::number(Answer::BadLine) as u64);
     2

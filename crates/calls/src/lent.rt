@@ -21,6 +21,9 @@ const MOST_WORDS: usize = 12375;
 // The fewest digits that it may have: a byte and two words.
 const SHORTEST: usize = 18;
 
+// The most: "more than 99,002 digits" are refused.
+const LONGEST: usize = 99002;
+
 // The words before those of a table check or a move count, and before a walk's lists.
 const TABLE_HEAD: usize = 2;
 
@@ -137,6 +140,9 @@ fn call_of(line: &[u8]) -> u64
     if line.len() < SHORTEST {
         return 0;
     }
+    if LONGEST < line.len() {
+        return 0;
+    }
     if line.len() % WORD != 2 {
         return 0;
     }
@@ -146,7 +152,7 @@ fn call_of(line: &[u8]) -> u64
     field_at(line, 0, 1)
 }
 
-// The answer of one line, without its line feed. 99,003 bytes are a line that is too long: they are not a byte and whole words.
+// The answer of one line, without its line feed.
 pub(crate) fn answer_line(line: &[u8], out: &mut [u8]) -> usize
     requires { ⌜ length (now line) ≤ 99003 ⌝ }
     ensures { λ r. ⌜ r ≤ 99002 ⌝ }

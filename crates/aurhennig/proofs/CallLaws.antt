@@ -1,29 +1,24 @@
--- Laws on the line call: the pieces that an allowed answer has, the set that a decoded line hands to the planner, and each way out.
+-- Laws on the line call: the pieces that an allowed answer has, and each way out.
 -- Assumes nothing.
 use mathlib.Core.Path.{_≡_, refl, sym, subst, _∙_, ap}
-use mathlib.Core.Bool.{Bool, true, false, true≢false}
+use mathlib.Core.Bool.{Bool, false}
 use mathlib.Core.List.{List, [], _++_}
 use Prim.Native.Nat.{ℕ, _+_, _-_, _*_, _≤_, _<_}
 use native.Mathlib.Omega.{arith}
 use lib.ListN.{length, take, drop, replicate, length-append, length-drop}
-use lib.Seq.{take-at}
 use borrow.Author.Tests.{lt-ltb, le-ltb}
 use Rattle.rules.specs.Piece.{firstPieces}
 use Rattle.rules.specs.Table.{tableOf}
-use Rattle.rules.specs.Tests.{Tested, refused as refused-test, passed, tested}
+use Rattle.rules.specs.Tests.{Tested, refused, passed, tested}
 use Rattle.rules.specs.Plan.{PlanAnswerAt, PlanAnswer, Decided, planned, overloaded}
-use Rattle.rules.specs.Line.{lineFrame, lineCores, lineTasks, lineBudgets, lineMasks, wellWritten, answerLine}
+use Rattle.rules.specs.Line.{lineFrame, lineCores, lineBudgets, lineMasks, wellWritten, answerLine}
 use Rattle.rules.specs.LineCall.{lentTable, LineAnswerAt, CallDone, CallAnswerAt, CallAnswer}
-use Rattle.rules.specs.declared.Answer.{Answer}
 use Rattle.rules.specs.declared.Answer.the-variants.{BadLine}
 use Rattle.rules.specs.declared.Planned.{Planned}
-use Rattle.setline.specs.ReadSet.{ReadSet, read, refused as refused-set}
-use Rattle.setline.specs.declared.SetRead.{SetRead}
-use Rattle.setline.specs.declared.SetRead.the-variants.{Refused, Set}
-use Rattle.answerline.specs.Put.{PutAnswer, put, refused}
+use Rattle.answerline.specs.Put.{PutAnswer}
 use Rattle.aurhennig.specs.Answered.{SetAnswered}
-use Rattle.fields.proofs.FieldLaws.{digits-below}
-use Rattle.setline.proofs.DecodeLaws.{length-tasks}
+use Rattle.setline.proofs.Handed.{LineRead}
+use Rattle.answerline.proofs.PutLaws.{was-put}
 use Rattle.rules.proofs.Numbers.{length-numbers}
 
 -- the pieces of any answer that the rules allow fit the lent table, as it keeps its length
@@ -36,78 +31,16 @@ module _ (F m : ℕ) (bs ms t₀ : List ℕ) (r : Planned) (t : List ℕ) (same 
   few-decided (overloaded g o) = omega (arith, o .refusal .pieces)
 
   few-at : (w : Tested) → PlanAnswerAt w F m bs ms t₀ r t → 4 * r .pieces ≤ length t₀
-  few-at (refused-test a) p = omega (arith, p .pieces)
+  few-at (refused a) p = omega (arith, p .pieces)
   few-at passed p = few-decided p
 
   pub few-pieces : PlanAnswer F m bs ms t₀ r t → 4 * r .pieces ≤ length t₀
   few-pieces p = few-at (tested F m bs ms t₀) p
 
--- the set that a line hands over, or why there is none: the two lists have room for any line's tasks
-frameOf : SetRead → ℕ
-frameOf Refused = 0
-frameOf (Set F m n) = F
-
-coresOf : SetRead → ℕ
-coresOf Refused = 0
-coresOf (Set F m n) = m
-
-tasksOf : SetRead → ℕ
-tasksOf Refused = 0
-tasksOf (Set F m n) = n
-
-isSet : SetRead → Bool
-isSet Refused = false
-isSet (Set F m n) = true
-
--- a set was read: the line is well written, and the set is the line's
-pub record LineRead (l : List ℕ) (F m n : ℕ) (b k : List ℕ) : Type 0 where
-  pub well : wellWritten l ≡ true
-  pub frame : F ≡ lineFrame l
-  pub cores : m ≡ lineCores l
-  pub budgets : take n b ≡ lineBudgets l
-  pub masks : take n k ≡ lineMasks l
-  pub few : n ≤ 255
-  pub budgets-count : n ≡ length (take n b)
-  pub masks-count : n ≡ length (take n k)
-
-module _ (l b₀ k₀ b k : List ℕ) where
-  pub set-read : (F m n : ℕ) → ReadSet l b₀ k₀ (Set F m n) b k → LineRead l F m n b k
-  unfolding frameOf coresOf tasksOf isSet
-  set-read F m n (read room e eb ek) =
-      let same : n ≡ lineTasks l = ap tasksOf e in
-      let hb : take n b ≡ lineBudgets l = ap (λ (i : ℕ). take i b) same ∙ ap (take (lineTasks l)) eb ∙ take-at (lineBudgets l) (drop (lineTasks l) b₀) (lineTasks l) (length-tasks l 0 4 (lineTasks l)) in
-      let hk : take n k ≡ lineMasks l = ap (λ (i : ℕ). take i k) same ∙ ap (take (lineTasks l)) ek ∙ take-at (lineMasks l) (drop (lineTasks l) k₀) (lineTasks l) (length-tasks l 4 2 (lineTasks l)) in
-      record {
-        well = room .written;
-        frame = ap frameOf e;
-        cores = ap coresOf e;
-        budgets = hb;
-        masks = hk;
-        few = omega (arith, same, digits-below l 10 2);
-        budgets-count = same ∙ sym (ap length hb ∙ length-tasks l 0 4 (lineTasks l));
-        masks-count = same ∙ sym (ap length hk ∙ length-tasks l 4 2 (lineTasks l));
-      }
-  set-read F m n (refused-set bar e eb ek) = absurd (true≢false (ap isSet e))
-
-  pub not-read : 255 ≤ length b₀ → 255 ≤ length k₀ → ReadSet l b₀ k₀ Refused b k → wellWritten l ≡ false
-  unfolding isSet
-  not-read hb hk (read room e eb ek) = absurd (true≢false (sym (ap isSet e)))
-  not-read hb hk (refused-set bar e eb ek) = badly (wellWritten l) refl
-    where
-      badly : (t : Bool) → t ≡ wellWritten l → wellWritten l ≡ false
-      badly false p = sym p
-      badly true p = absurd (bar (record { written = sym p; budgets = omega (arith, hb, digits-below l 10 2); masks = omega (arith, hk, digits-below l 10 2) }))
-
 -- "it lends 95 pieces"
 pub lent : replicate 380 0 ≡ lentTable
 unfolding lentTable
 lent = refl
-
--- an answer's line at the front of the output, which has room for it
-module _ (a : Answer) (t : List ℕ) (n : ℕ) (o : List ℕ) (r : ℕ) (x : List ℕ) (long : 1906 ≤ length o) (few : n ≤ 95) (held : 4 * n ≤ length t) where
-  pub was-put : PutAnswer a t n o r x → (r ≡ length (answerLine a (firstPieces t n))) × (x ≡ answerLine a (firstPieces t n) ++ drop (length (answerLine a (firstPieces t n))) o)
-  was-put (put room line e g h) = (g ∙ ap length e, h ∙ ap (λ (z : List ℕ). z ++ drop (length z) o) e)
-  was-put (refused bar g h) = absurd (bar (record { output = long; few = few; held = held }))
 
 -- answer 12 has no pieces
 pub bad-put : (t o : List ℕ) (r : ℕ) (x : List ℕ) → 1906 ≤ length o → PutAnswer BadLine t 0 o r x

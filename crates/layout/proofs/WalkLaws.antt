@@ -155,6 +155,17 @@ module _ (n m : ℕ) (units : List ℕ) (core task : ℕ) (s : Marks) (start fir
       }
 
 module _ (n m : ℕ) (units : List ℕ) (core : ℕ) where
+  -- a mark moves no start
+  pub marked-meets : {b : ℕ} {s s' : Marks} {start first : List ℕ} → Meeting n m units core b s start first → Meeting n m units core b s' start first
+  marked-meets g =
+      record {
+        small = g .small;
+        core-few = g .core-few;
+        bounded = record { starts = g .bounded .starts; firsts = g .bounded .firsts };
+        start-long = g .start-long;
+        first-long = g .first-long;
+      }
+
   pub meet-begin : (b : ℕ) (s : Marks) (start first : List ℕ) → Meeting n m units core b s start first → Kept (meet n m (cell units) core 0 (walkOf s start first)) s start first
   unfolding meet
   meet-begin b s start first g = record { same = refl; start-long = g .start-long; first-long = g .first-long }

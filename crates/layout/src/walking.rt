@@ -8,7 +8,7 @@ ghost use lib.ListN.{replicate};
 ghost use Rattle.rules.specs.Sizes.{maxCores};
 ghost use Rattle.rules.specs.Sum.{lowest};
 ghost use Rattle.rules.specs.Sets.{has};
-ghost use Rattle.rules.specs.Layout.{reachOne, reach, meetOne, meet, visit, nextCore, layout};
+ghost use Rattle.rules.specs.Layout.{reachOne, reach, meetOne, visit, nextCore, layout};
 ghost use Rattle.stretches.specs.Cell.{cell};
 ghost use Rattle.stretches.specs.Small.{Small};
 ghost use Rattle.layout.specs.Walking.{walkOf, Kept, latestStart, Reaching, Meeting};
@@ -131,35 +131,7 @@ fn meet_one(
     reach_cores(units, cores, task, core, at, start, first, marked)
 }
 
-// The tasks of a core are met in ascending number.
-fn meet_tasks(
-    units: &[u32; 1024],
-    tasks: usize,
-    cores: usize,
-    core: usize,
-    start: &mut [u32; 16],
-    first: &mut [usize; 16],
-    marks: Marks,
-) -> Marks
-    requires { ⌜ Meeting tasks cores (now units) core (latestStart (maxCores - 1)) marks (now start) (now first) ⌝ }
-    ensures { λ r. ⌜
-        Kept
-        (meet tasks cores (cell (now (units .entry))) core tasks (walkOf marks (now (start .entry)) (now (first .entry))))
-        r
-        (now (start .exit))
-        (now (first .exit))
-        ⌝ }
-{
-    let mut s = marks;
-    let mut t = 0;
-    while t < tasks {
-        s = meet_one(units, tasks, cores, core, start, first, s, t);
-        t += 1;
-    }
-    s
-}
-
-// The core is marked, so that it is not visited again, and its tasks are met.
+// The core is marked, so that it is not visited again, and its tasks are met in ascending number.
 fn visit_core(
     units: &[u32; 1024],
     tasks: usize,
@@ -180,12 +152,17 @@ fn visit_core(
 {
     let visited = marks.visited;
     let reached = marks.reached;
-    let marked = Marks {
+    let mut s = Marks {
         visited: with_core(visited, core),
         reached: with_core(reached, core),
         met: marks.met,
     };
-    meet_tasks(units, tasks, cores, core, start, first, marked)
+    let mut t = 0;
+    while t < tasks {
+        s = meet_one(units, tasks, cores, core, start, first, s, t);
+        t += 1;
+    }
+    s
 }
 
 // The lowest core of `wanted` that was not visited; `cores` where there is none.

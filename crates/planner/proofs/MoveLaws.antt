@@ -20,8 +20,8 @@ same-core t j k e = omega arith
 pub other-cell : (l : List ℕ) (t from to v : ℕ) → (from ≡ to → ⊥) → getD (set l (t * 16 + from) v) (t * 16 + to) 0 ≡ getD l (t * 16 + to) 0
 other-cell l t from to v ne = getD-set-other l (t * 16 + from) (t * 16 + to) v 0 (λ e. ne (sym (same-core t to from e)))
 
-pub raise-fits : (l : List ℕ) (t from to v d : ℕ) → (from ≡ to → ⊥) → cell l t to + d < 2 ^ 32 → getD (set l (t * 16 + from) v) (t * 16 + to) 0 + d < 2 ^ 32
-raise-fits l t from to v d ne h = rw (other-cell l t from to v ne) h
+pub raise-fits : (l : List ℕ) (t from to v d e : ℕ) → (from ≡ to → ⊥) → cell l t to + d < 2 ^ 32 → e ≤ d → getD (set l (t * 16 + from) v) (t * 16 + to) 0 + e < 2 ^ 32
+raise-fits l t from to v d e ne h le = omega (arith, other-cell l t from to v ne)
 
 module _ (l : List ℕ) (t from to d : ℕ) (long : length l ≡ 1024) (below : t < 64) (f : from < 16) (g : to < 16) (ne : from ≡ to → ⊥)
     (enough : d ≤ cell l t from) where

@@ -1,4 +1,5 @@
 pub mod DecodeLaws
 pub mod Decoding
+pub mod Handed
 pub mod ReadLaws
 pub mod Unique

@@ -2,7 +2,8 @@
 -- Assumes nothing.
 use native.Mathlib.Omega.{arith}
 use borrow.Author.Needs.{needs}
-use Rattle.aurhennig.proofs.CallLaws.{set-read, not-read, planned-done, refused-done}
+use Rattle.setline.proofs.Handed.{set-read, not-read}
+use Rattle.aurhennig.proofs.CallLaws.{planned-done, refused-done}
 use Rattle.aurhennig.proofs.call.answer_line.Statement.{statement}
 use Rattle.aurhennig.proofs.call.answer_line.Tie as tie
 

@@ -1,5 +1,6 @@
 -- Two stores, at different places. Assumes nothing.
 use Rattle.planner.proofs.MoveLaws.{raise-fits, moved-by-stores}
+use native.Mathlib.Omega.{arith}
 use lib.ListN.{length-set}
 use borrow.Author.Needs.{needs}
 use Rattle.planner.proofs.shift.move_units.Statement.{statement}
@@ -39,7 +40,7 @@ element-copy-out-units-2 : tie.Need-element-copy-out-units-2
 element-copy-out-units-2 c = search needs
 
 add-units : tie.Need-add-units
-add-units c = record { fits = raise-fits (c .before .before .args .units .now) _ _ _ _ _ (c .before .before .pre .4) (c .before .before .pre .6) }
+add-units c = record { fits = raise-fits (c .before .before .args .units .now) _ _ _ _ _ _ (c .before .before .pre .4) (c .before .before .pre .6) (omega arith) }
 
 mul-units-4 : tie.Need-mul-units-4
 mul-units-4 c = search needs

@@ -1,7 +1,7 @@
 -- Laws on what stands after an answer's number, as it is written: one for each arm of the match.
 -- Assumes nothing.
 use mathlib.Core.Path.{_≡_, refl, sym, _∙_, ap}
-use mathlib.Core.List.{List, [], _∷_}
+use mathlib.Core.List.{List, [], _∷_, append-nil}
 use Prim.Native.Nat.{ℕ, _+_, _*_, _≤_}
 use native.Mathlib.Omega.{arith}
 use lib.ListN.{length, length-append}
@@ -12,7 +12,7 @@ use Rattle.rules.specs.declared.Answer.{Answer}
 use Rattle.rules.specs.declared.Answer.the-variants.{Accepted, FrameLength, CoreCount, TaskCount, Mask, Budget, ShortTable, Overloaded, NotTable, JobList, NoUnits, ShortFinishes, BadLine}
 use Rattle.rules.specs.Piece.{Piece, firstPieces}
 use Rattle.rules.specs.Answer.{numberOf}
-use Rattle.rules.specs.Line.{bytes, pieceLines, answerRest, answerLine}
+use Rattle.rules.specs.Line.{bytes, pieceLines, lineWidths, valuesLine, answerRest, answerLine}
 use Rattle.fields.specs.Pasted.{pasted}
 use Rattle.fields.proofs.PastedLaws.{length-digits, pasted-twice, pasted-none}
 use Rattle.rules.proofs.Numbers.{length-first}
@@ -25,7 +25,7 @@ Ends o o₁ r l = (o₁ ≡ pasted o 2 l) × (r ≡ 2 + length l)
 module _ (a : Answer) where
   pub rest-accepted : (o o₁ o₂ t : List ℕ) (n : ℕ) → a ≡ Accepted → 1906 ≤ length o → o₁ ≡ pasted o 2 (bytes 2 n) → o₂ ≡ pasted o₁ 6 (pieceLines (firstPieces t n))
       → Ends o o₂ (6 + 20 * n) (answerRest a (firstPieces t n))
-  unfolding answerRest
+  unfolding lineWidths valuesLine answerRest
   rest-accepted o o₁ o₂ t n e h e₁ e₂ = (
     e₂
         ∙ ap (λ (x : List ℕ). pasted x 6 (pieceLines (firstPieces t n))) e₁
@@ -35,24 +35,24 @@ module _ (a : Answer) where
   )
 
   pub rest-mask : (o o₁ : List ℕ) (ps : List Piece) (task : ℕ) → a ≡ Mask task → o₁ ≡ pasted o 2 (bytes 1 task) → Ends o o₁ 4 (answerRest a ps)
-  unfolding answerRest
-  rest-mask o o₁ ps task e e₁ = simp e (e₁, simp length-digits)
+  unfolding lineWidths valuesLine answerRest
+  rest-mask o o₁ ps task e e₁ = simp (e, append-nil) (e₁, simp length-digits)
 
   pub rest-budget : (o o₁ : List ℕ) (ps : List Piece) (task : ℕ) → a ≡ Budget task → o₁ ≡ pasted o 2 (bytes 1 task) → Ends o o₁ 4 (answerRest a ps)
-  unfolding answerRest
-  rest-budget o o₁ ps task e e₁ = simp e (e₁, simp length-digits)
+  unfolding lineWidths valuesLine answerRest
+  rest-budget o o₁ ps task e e₁ = simp (e, append-nil) (e₁, simp length-digits)
 
   pub rest-overloaded : (o o₁ o₂ : List ℕ) (ps : List Piece) (g c : ℕ) → a ≡ Overloaded g c → 1906 ≤ length o → o₁ ≡ pasted o 2 (bytes 8 g) → o₂ ≡ pasted o₁ 18 (bytes 2 c)
       → Ends o o₂ 22 (answerRest a ps)
-  unfolding answerRest
+  unfolding lineWidths valuesLine answerRest
   rest-overloaded o o₁ o₂ ps g c e h e₁ e₂ = (
-    e₂ ∙ ap (λ (x : List ℕ). pasted x 18 (bytes 2 c)) e₁ ∙ pasted-twice o 2 (bytes 8 g) 18 (bytes 2 c) (simp length-digits) (omega arith) ∙ simp e,
-    simp (e, length-append, length-digits),
+    e₂ ∙ ap (λ (x : List ℕ). pasted x 18 (bytes 2 c)) e₁ ∙ pasted-twice o 2 (bytes 8 g) 18 (bytes 2 c) (simp length-digits) (omega arith) ∙ simp (e, append-nil),
+    simp (e, append-nil, length-append, length-digits),
   )
 
 -- the other answers carry nothing on a line
 rest-none : (a : Answer) (ps : List Piece) → OneOf (1 ∷ 2 ∷ 3 ∷ 6 ∷ 8 ∷ 9 ∷ 10 ∷ 11 ∷ 12 ∷ []) (tagOf the-type a) → answerRest a ps ≡ []
-unfolding answerRest
+unfolding lineWidths valuesLine answerRest
 rest-none Accepted ps k = absurd (miss (1 ∷ 2 ∷ 3 ∷ 6 ∷ 8 ∷ 9 ∷ 10 ∷ 11 ∷ 12 ∷ []) 0 tt k)
 rest-none FrameLength ps k = refl
 rest-none CoreCount ps k = refl

@@ -2,14 +2,14 @@
 -- Assumes nothing.
 use mathlib.Core.Path.{_≡_, refl, sym, _∙_, ap}
 use mathlib.Core.Bool.{cond}
-use mathlib.Core.List.{List, [], _∷_, _++_, append-assoc, append-nil}
+use mathlib.Core.List.{List, [], _∷_, _++_, append-assoc}
 use Prim.Native.Nat.{ℕ, zero, suc, _+_, _^_, _<_}
 use native.Mathlib.Omega.{arith}
 use lib.Dec.{eqb}
 use lib.ListN.{length, length-append}
 use Rattle.rules.specs.Piece.{Piece}
 use Rattle.rules.specs.Answer.{numberOf}
-use Rattle.rules.specs.Line.{digitsAt, digits, bytes, pieceLine, pieceLines, answerRest, answerLine}
+use Rattle.rules.specs.Line.{digitsAt, digits, bytes, pieceLine, pieceLines, lineWidths, valuesLine, answerRest, answerLine}
 use Rattle.rules.specs.declared.Answer.{Answer}
 use Rattle.rules.specs.declared.Answer.the-variants.{Accepted, FrameLength, CoreCount, TaskCount, Mask, Budget, ShortTable, Overloaded, NotTable, JobList, NoUnits, ShortFinishes, BadLine}
 use Rattle.answerline.specs.Shown.{PieceFits, PiecesFit, Shown}
@@ -54,18 +54,18 @@ answerWith n l =
     (cond (eqb n 11) ShortFinishes BadLine)))))))))
 
 answer-back : (a : Answer) (ps : List Piece) → Shown a ps → answerWith (numberOf a) (answerLine a ps) ≡ a
-unfolding answerWith answerLine answerRest
+unfolding answerWith answerLine lineWidths valuesLine answerRest
 answer-back Accepted ps s = refl
 answer-back FrameLength ps s = refl
 answer-back CoreCount ps s = refl
 answer-back TaskCount ps s = refl
-answer-back (Mask task) ps s = ap Mask (at-read (answerLine (Mask task) ps) (bytes 1 4) [] 2 2 task (ap (λ (x : List ℕ). bytes 1 4 ++ x) (sym (append-nil (bytes 1 task)))) (length-digits 2 4) s)
-answer-back (Budget task) ps s = ap Budget (at-read (answerLine (Budget task) ps) (bytes 1 5) [] 2 2 task (ap (λ (x : List ℕ). bytes 1 5 ++ x) (sym (append-nil (bytes 1 task)))) (length-digits 2 5) s)
+answer-back (Mask task) ps s = ap Mask (at-read (answerLine (Mask task) ps) (bytes 1 4) [] 2 2 task refl (length-digits 2 4) s)
+answer-back (Budget task) ps s = ap Budget (at-read (answerLine (Budget task) ps) (bytes 1 5) [] 2 2 task refl (length-digits 2 5) s)
 answer-back ShortTable ps s = refl
 answer-back (Overloaded group cores) ps s =
     simp (
-      at-read (answerLine (Overloaded group cores) ps) (bytes 1 7) (bytes 2 cores) 2 16 group refl (length-digits 2 7) (s .0),
-      at-read (answerLine (Overloaded group cores) ps) (bytes 1 7 ++ bytes 8 group) [] 18 4 cores (simp (append-assoc, append-nil)) (simp (length-append, length-digits)) (s .1),
+      at-read (answerLine (Overloaded group cores) ps) (bytes 1 7) (bytes 2 cores ++ []) 2 16 group refl (length-digits 2 7) (s .0),
+      at-read (answerLine (Overloaded group cores) ps) (bytes 1 7 ++ bytes 8 group) [] 18 4 cores (simp append-assoc) (simp (length-append, length-digits)) (s .1),
     )
 answer-back NotTable ps s = refl
 answer-back (JobList job) ps s = absurd s
@@ -124,7 +124,7 @@ pieces-back xs (p ∷ ps) f =
         ∙ e
 
 table-back : (ps : List Piece) → Shown Accepted ps → piecesFrom (answerLine Accepted ps) 6 (digitsAt (answerLine Accepted ps) 2 4) ≡ ps
-unfolding answerLine answerRest
+unfolding answerLine lineWidths valuesLine answerRest
 table-back ps s =
     ap (piecesFrom (answerLine Accepted ps) 6) (at-read (answerLine Accepted ps) (bytes 1 0) (pieceLines ps) 2 4 (length ps) refl (length-digits 2 0) (s .0))
     ∙ ap (λ (l : List ℕ). piecesFrom l 6 (length ps)) (sym (append-assoc (bytes 1 0) (bytes 2 (length ps)) (pieceLines ps)))

@@ -6,7 +6,6 @@ pub mod GoBackLaws
 pub mod LinkLaws
 pub mod LooseLaws
 pub mod MoveLaws
-pub mod Promised
 pub mod SearchLaws
 pub mod SeekLaws
 pub mod ShiftLaws

@@ -24,7 +24,7 @@ use Rattle.rules.specs.Tests.{testedSet, badFrame, badCores, badTasks, b
 use Rattle.rules.specs.Check.{checkAnswer, movesAnswer}
 use Rattle.rules.specs.Jobs.{badJobCount, early, badJob, firstBadJob, firstAsking}
 use Rattle.rules.specs.Walked.{walkTested}
-use Rattle.rules.specs.Line.{isDecimal, isLetter, isDigit, digitValue, digitOf, digitsAt, field, digits, taskFields, allDigits, wellWritten, lineBudgets, pieceLine, pieceLines, answerRest, answerLine}
+use Rattle.rules.specs.Line.{isDecimal, isLetter, isDigit, digitValue, digitOf, digitsAt, field, digits, taskFields, allDigits, wellWritten, lineBudgets, pieceLine, pieceLines, lineWidths, valuesLine, answerRest, answerLine}
 use Rattle.rules.specs.LineCall.{lentTable}
 use Rattle.rules.specs.Plan.{at}
 use Rattle.rules.specs.declared.Answer.the-variants.{Accepted, FrameLength, TaskCount, Mask, ShortTable, Overloaded, NotTable, NoUnits}
@@ -219,11 +219,11 @@ unfolding taskFields isDecimal isLetter digits digitOf digitsAt digitValue
 budgets-value = refl
 
 answer-line-value : answerLine (Mask 0x3f) [] ≡ digits 4 0x043f
-unfolding answerLine answerRest digits digitOf
+unfolding answerLine lineWidths valuesLine answerRest digits digitOf
 answer-line-value = refl
 
 piece-line-value : answerLine Accepted (piecesOf (15 ∷ 63 ∷ 999999 ∷ 1 ∷ [])) ≡ digits 26 0x0000010f3f000f423f00000001
-unfolding answerLine answerRest pieceLine pieceLines firstPieces digits digitOf
+unfolding answerLine lineWidths valuesLine answerRest pieceLine pieceLines firstPieces digits digitOf
 piece-line-value = refl
 
 lent-value : length lentTable ≡ 380

@@ -7,9 +7,8 @@ use lib.Dec.{eqb, leb, ltb}
 use lib.ListN.{length, getD}
 use Rattle.rules.specs.Sizes.{maxDigits}
 use Rattle.rules.specs.Piece.{Piece}
-use Rattle.rules.specs.Answer.{numberOf}
+use Rattle.rules.specs.Answer.{numberOf, valuesOf}
 use Rattle.rules.specs.declared.Answer.{Answer}
-use Rattle.rules.specs.declared.Answer.the-variants.{Accepted, FrameLength, CoreCount, TaskCount, Mask, Budget, ShortTable, Overloaded, NotTable, JobList, NoUnits, ShortFinishes, BadLine}
 
 -- "`0` to `9`", the bytes 48 to 57
 unfoldable pub isDecimal : ℕ → Bool
@@ -87,22 +86,20 @@ unfoldable pub pieceLines : List Piece → List ℕ
 pieceLines [] = []
 pieceLines (p ∷ ps) = pieceLine p ++ pieceLines ps
 
--- what stands after the number: "for 0 the piece count (2) and per piece ..; for 4 and 5 the task (1); for 7 the group (8, bit i for task i)
--- and its cores (2); otherwise nothing more"
+-- how many bytes each value takes that the answer of this number carries (`valuesOf`): "for 4 and 5 the task (1); for 7 the group (8, bit i for
+-- task i) and its cores (2); otherwise nothing more"
+unfoldable pub lineWidths : ℕ → List ℕ
+lineWidths number = cond (eqb number 4) (1 ∷ []) (cond (eqb number 5) (1 ∷ []) (cond (eqb number 7) (8 ∷ 2 ∷ []) []))
+
+-- values one after another, each as so many bytes as its width says; a value without a width is not written
+unfoldable pub valuesLine : List ℕ → List ℕ → List ℕ
+valuesLine [] vs = []
+valuesLine (w ∷ ws) [] = []
+valuesLine (w ∷ ws) (v ∷ vs) = bytes w v ++ valuesLine ws vs
+
+-- what stands after the number: "for 0 the piece count (2) and per piece ..", and for any other the values that it carries
 unfoldable pub answerRest : Answer → List Piece → List ℕ
-answerRest Accepted ps = bytes 2 (length ps) ++ pieceLines ps
-answerRest FrameLength ps = []
-answerRest CoreCount ps = []
-answerRest TaskCount ps = []
-answerRest (Mask task) ps = bytes 1 task
-answerRest (Budget task) ps = bytes 1 task
-answerRest ShortTable ps = []
-answerRest (Overloaded group cores) ps = bytes 8 group ++ bytes 2 cores
-answerRest NotTable ps = []
-answerRest (JobList job) ps = []
-answerRest (NoUnits job) ps = []
-answerRest ShortFinishes ps = []
-answerRest BadLine ps = []
+answerRest a ps = cond (eqb (numberOf a) 0) (bytes 2 (length ps) ++ pieceLines ps) (valuesLine (lineWidths (numberOf a)) (valuesOf a))
 
 -- "Out, one line for each: the number (1 byte)", and the rest; ps are the pieces of an accepted set
 unfoldable pub answerLine : Answer → List Piece → List ℕ

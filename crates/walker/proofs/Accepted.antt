@@ -1,22 +1,23 @@
--- What an accepted walk says: the tests passed, and each place holds its job's finish. The bound and a worked call follow.
+-- What an accepted walk says: the tests passed, and each place holds its job's finish. The bound follows.
 -- Assumes nothing.
 use mathlib.Core.Path.{_≡_, refl, sym, _∙_, ap}
 use mathlib.Core.Bool.{Bool, true, false, cond, _&&_, true≢false}
 use mathlib.Core.List.{List}
-use Prim.Native.Nat.{ℕ, suc, _+_, _*_, _≤_, _<_}
+use Prim.Native.Nat.{ℕ, _≤_}
 use lib.Dec.{eqb, ltb}
 use lib.ListN.{length, getD}
 use Rattle.rules.specs.Tests.{refused, passed, badFrame, badCores}
 use Rattle.rules.specs.Piece.{piecesOf}
 use Rattle.rules.specs.FrameTable.{frameTable}
 use Rattle.rules.specs.Service.{units}
+use Rattle.rules.specs.Paced.{Paced, Bounded}
 use Rattle.rules.specs.Jobs.{badJobCount, firstBadJob, firstAsking}
 use Rattle.rules.specs.Walked.{walkTested, WalkRefusal, WalkDone, WalkAnswerAt, WalkAnswer}
 use Rattle.rules.specs.declared.Answer.{Answer}
 use Rattle.rules.specs.declared.Answer.the-variants.{Accepted, FrameLength, CoreCount, NotTable, JobList, NoUnits, ShortFinishes}
 use Rattle.table.proofs.Accepted.{frame-some}
 use Rattle.walker.specs.Jobs.{accepts}
-use Rattle.walker.proofs.Bound.{finish-by-release-plus-period-plus-frame, finish-by-release-plus-period}
+use Rattle.walker.proofs.Bound.{paced-bounded}
 
 module _ (F m : ℕ) (table : List ℕ) (task : ℕ) (releases jobs before : List ℕ) (r : Answer) (after : List ℕ)
     (answer : WalkAnswer F m table task releases jobs before r after) (yes-answer : r ≡ Accepted) where
@@ -50,15 +51,8 @@ module _ (F m : ℕ) (table : List ℕ) (task : ℕ) (releases jobs before : Lis
   accepted-done = all .1
 
   -- the bound, over what walk hands back
-  module _ (T c : ℕ) (enough : c * F ≤ units F (piecesOf table) task F * T)
-      (apart : (k : ℕ) → suc k < length releases → getD releases k 0 + T ≤ getD releases (suc k) 0)
-      (small : (k : ℕ) → k < length releases → getD jobs k 0 ≤ c) where
-    pub walked-finish-by-release-plus-period-plus-frame : (k : ℕ) → k < length releases → getD after k 0 ≤ getD releases k 0 + T + F
-    walked-finish-by-release-plus-period-plus-frame =
-        finish-by-release-plus-period-plus-frame F (piecesOf table) task T c (length releases) (λ k. getD releases k 0) (λ k. getD jobs k 0) (λ k. getD after k 0)
-        accepted-frame enough apart small (accepted-done .finishes)
-
-    pub walked-finish-by-release-plus-period : (q : ℕ) → T ≡ q * F → (k : ℕ) → k < length releases → getD after k 0 ≤ getD releases k 0 + T
-    walked-finish-by-release-plus-period q e =
-        finish-by-release-plus-period F (piecesOf table) task T c (length releases) (λ k. getD releases k 0) (λ k. getD jobs k 0) (λ k. getD after k 0)
-        accepted-frame enough q e apart small (accepted-done .finishes)
+  pub walked-bounded : (T c : ℕ) → Paced F (units F (piecesOf table) task F) T c (length releases) (λ k. getD releases k 0) (λ k. getD jobs k 0)
+      → Bounded F T (length releases) (λ k. getD releases k 0) (λ k. getD after k 0)
+  walked-bounded T c h =
+      paced-bounded F (piecesOf table) task T c (length releases) (λ k. getD releases k 0) (λ k. getD jobs k 0) (λ k. getD after k 0) accepted-frame h
+      (accepted-done .finishes)

@@ -13,6 +13,7 @@ use Rattle.rules.specs.Sum.{sumTo}
 use Rattle.rules.specs.Piece.{Piece}
 use Rattle.rules.specs.Service.{covers, covered, unit, units}
 use Rattle.rules.specs.Finish.{Finish, Finishes, beginOf}
+use Rattle.rules.specs.Paced.{Paced, Bounded}
 use Rattle.sums.proofs.Sum.{sum-mono}
 use Rattle.walker.proofs.Periodic.{again-frame, again-frames}
 
@@ -136,20 +137,12 @@ module _ (F : ℕ) (ps : List Piece) (task : ℕ) where
         pub finish-within : (k : ℕ) → k < count → finish k ≤ release k + T + X
         finish-within k h = omega (arith, jobs k h .bound, jobs k h .early)
 
--- each job finishes by its release plus the period plus the frame
-pub finish-by-release-plus-period-plus-frame : (F : ℕ) (ps : List Piece) (task T c count : ℕ) (release job finish : ℕ → ℕ) → 1 ≤ F
-    → c * F ≤ units F ps task F * T
-    → ((k : ℕ) → suc k < count → release k + T ≤ release (suc k)) → ((k : ℕ) → k < count → job k ≤ c)
-    → Finishes F ps task count release job finish
-    → (k : ℕ) → k < count → finish k ≤ release k + T + F
-finish-by-release-plus-period-plus-frame F ps task T c count release job finish pos enough apart small finishes =
-    finish-within F ps task pos T c enough F count release job finish (far F ps task pos T c enough) apart small finishes
-
--- and by its release plus the period where the frame divides the period
-pub finish-by-release-plus-period : (F : ℕ) (ps : List Piece) (task T c count : ℕ) (release job finish : ℕ → ℕ) → 1 ≤ F
-    → c * F ≤ units F ps task F * T → (q : ℕ) → T ≡ q * F
-    → ((k : ℕ) → suc k < count → release k + T ≤ release (suc k)) → ((k : ℕ) → k < count → job k ≤ c)
-    → Finishes F ps task count release job finish
-    → (k : ℕ) → k < count → finish k ≤ release k + T
-finish-by-release-plus-period F ps task T c count release job finish pos enough q e apart small finishes k h =
-    omega (arith, finish-within F ps task pos T c enough 0 count release job finish (far-whole F ps task pos T c enough q e) apart small finishes k h)
+-- each job finishes by its release plus the period plus the frame, and by its release plus the period where the frame divides the period
+pub paced-bounded : (F : ℕ) (ps : List Piece) (task T c count : ℕ) (release job finish : ℕ → ℕ) → 1 ≤ F
+    → Paced F (units F ps task F) T c count release job → Finishes F ps task count release job finish → Bounded F T count release finish
+paced-bounded F ps task T c count release job finish pos h finishes =
+    record {
+      by-frame = finish-within F ps task pos T c (h .enough) F count release job finish (far F ps task pos T c (h .enough)) (h .apart) (h .small) finishes;
+      by-period = λ q e k l.
+          omega (arith, finish-within F ps task pos T c (h .enough) 0 count release job finish (far-whole F ps task pos T c (h .enough) q e) (h .apart) (h .small) finishes k l);
+    }

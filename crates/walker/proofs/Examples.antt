@@ -18,7 +18,7 @@ use Rattle.rules.specs.Jobs.{badJobCount, early, badJob, firstBadJob, firstAski
 use Rattle.rules.specs.Walked.{walkTested, WalkAnswer}
 use Rattle.rules.specs.declared.Answer.the-variants.{Accepted}
 use Rattle.walker.proofs.Bound.{units-mono}
-use Rattle.walker.proofs.Accepted.{walked-finish-by-release-plus-period-plus-frame}
+use Rattle.walker.proofs.Accepted.{walked-bounded}
 
 -- the table of P1
 abbrev pub tableP1 : List ℕ
@@ -87,5 +87,5 @@ example-P10-bounded = (bound 0 (lit< tt), bound 1 (lit< tt))
 
     bound : (k : ℕ) → k < 2 → getD (14 ∷ 22 ∷ []) k 0 ≤ getD (4 ∷ 13 ∷ []) k 0 + 9 + 6
     bound =
-        walked-finish-by-release-plus-period-plus-frame 6 2 tableP1 0 (4 ∷ 13 ∷ []) (6 ∷ 6 ∷ []) (0 ∷ 0 ∷ []) Accepted (14 ∷ 22 ∷ []) example-P10 refl 9 6
-        enough apart small
+        walked-bounded 6 2 tableP1 0 (4 ∷ 13 ∷ []) (6 ∷ 6 ∷ []) (0 ∷ 0 ∷ []) Accepted (14 ∷ 22 ∷ []) example-P10 refl 9 6
+        (record { enough = enough; apart = apart; small = small }) .by-frame

@@ -9,7 +9,7 @@ use lib.ListN.{length, drop}
 use Rattle.rules.specs.Piece.{firstPieces}
 use Rattle.rules.specs.Tests.{shortTable}
 use Rattle.rules.specs.Plan.{PlanAnswer}
-use Rattle.rules.specs.Line.{isDecimal, isLetter, isDigit, digitValue, digitOf, digitsAt, digits, taskFields, allDigits, wellWritten, lineFrame, lineCores, lineBudgets, lineMasks, pieceLine, pieceLines, answerRest, answerLine}
+use Rattle.rules.specs.Line.{isDecimal, isLetter, isDigit, digitValue, digitOf, digitsAt, digits, taskFields, allDigits, wellWritten, lineFrame, lineCores, lineBudgets, lineMasks, pieceLine, pieceLines, lineWidths, valuesLine, answerRest, answerLine}
 use Rattle.rules.specs.LineCall.{lentTable, LinePlanned, LineAnswer, LineAnswerAt}
 use Rattle.rules.specs.Settled.{Roomy, Only, Holds, answers, tableP1}
 use Rattle.rules.specs.declared.Answer.{Answer}
@@ -56,13 +56,13 @@ nought : (k : ℕ) → 4 * k ≡ 0 → k ≡ 0
 nought k e = omega arith
 
 pub line1 : Holds (answers 48 0x000000060203000000040003000000030001000000050002 106 0x0000050000000000000000000300010000000300000003010200000000000000030100000000030000000101020000000400000002)
-unfolding isDecimal isLetter isDigit digitValue digitOf digitsAt digits taskFields allDigits wellWritten pieceLine pieceLines answerRest answerLine lentTable firstPieces shortTable
+unfolding isDecimal isLetter isDigit digitValue digitOf digitsAt digits taskFields allDigits wellWritten pieceLine pieceLines lineWidths valuesLine answerRest answerLine lentTable firstPieces shortTable
 line1 = line-only (digits 48 0x000000060203000000040003000000030001000000050002) (digits 106 0x0000050000000000000000000300010000000300000003010200000000000000030100000000030000000101020000000400000002) 6 2 _ _ Accepted tableP1 p1 refl refl refl refl refl refl (λ k e. rw (five k e))
 
 pub line2 : Holds (answers 48 0x0000000a0203000000080001000000080001000000030002 22 0x0700000000000000030001)
-unfolding isDecimal isLetter isDigit digitValue digitOf digitsAt digits taskFields allDigits wellWritten pieceLine pieceLines answerRest answerLine lentTable firstPieces shortTable
+unfolding isDecimal isLetter isDigit digitValue digitOf digitsAt digits taskFields allDigits wellWritten pieceLine pieceLines lineWidths valuesLine answerRest answerLine lentTable firstPieces shortTable
 line2 = line-only (digits 48 0x0000000a0203000000080001000000080001000000030002) (digits 22 0x0700000000000000030001) 10 2 _ _ (Overloaded 0b011 0b01) [] (p2 .0) refl refl refl refl refl refl (λ k e. refl)
 
 pub line8 : Holds (answers 24 0x0000000a0101000000000001 6 0x000000)
-unfolding isDecimal isLetter isDigit digitValue digitOf digitsAt digits taskFields allDigits wellWritten pieceLine pieceLines answerRest answerLine lentTable firstPieces shortTable
+unfolding isDecimal isLetter isDigit digitValue digitOf digitsAt digits taskFields allDigits wellWritten pieceLine pieceLines lineWidths valuesLine answerRest answerLine lentTable firstPieces shortTable
 line8 = line-only (digits 24 0x0000000a0101000000000001) (digits 6 0x000000) 10 1 _ _ Accepted [] p8 refl refl refl refl refl refl (λ k e. rw (nought k e))

@@ -11,6 +11,7 @@ pub mod FrameTable
 pub mod Moves
 pub mod Service
 pub mod Finish
+pub mod Paced
 pub mod Obeys
 pub mod Layout
 pub mod Table

@@ -26,7 +26,7 @@ module _ (F : ℕ) (ps : List Piece) (task : ℕ) where
       (rw (finishes-unique count release job f g p q k (omega arith)) (q (suc k) h))
 
 -- two lists of one length that agree below n and from n on
-pub same-list : (n : ℕ) (x y : List ℕ) → length x ≡ length y → ((k : ℕ) → k < n → getD x k 0 ≡ getD y k 0) → drop n x ≡ drop n y → x ≡ y
+same-list : (n : ℕ) (x y : List ℕ) → length x ≡ length y → ((k : ℕ) → k < n → getD x k 0 ≡ getD y k 0) → drop n x ≡ drop n y → x ≡ y
 same-list n x y l f e =
     ext-getD 0 x y l (λ i h. elim (decLt i n) [ yes b ↦ f i b | no b ↦ later i (omega arith) ])
   where

@@ -49,7 +49,7 @@ pub data Example : Type 0 where
   -- instant, which is its release + T, and not after the second, which is its release + T + F
   paced : ℕ → ℕ → List ℕ → ℕ → List ℕ → List ℕ → ℕ → ℕ → ℕ → ℕ → Example
 
--- every allocation of the set has these units; and they are one, and free of loops
+-- every allocation of the set has these units; and they are an allocation, and a loop-free one
 pub record OnlyAllocation (F m : ℕ) (budgets masks given : List ℕ) : Type 0 where
   pub only : (x : ℕ → ℕ → ℕ) → Allocation (length budgets) m (limitOf F) (at budgets) (at masks) x → cells (length budgets) m x ≡ given
   pub some : Allocation (length budgets) m (limitOf F) (at budgets) (at masks) (cellAt m given)
@@ -82,19 +82,20 @@ module _ (F m : ℕ) (table : List ℕ) (task : ℕ) (releases jobs : List ℕ) 
       (before : List ℕ) → length releases ≤ length before → (r : Answer) (after : List ℕ) → WalkAnswer F m table task releases jobs before r after
       → P before r after
 
-  -- every such answer is this one, with the places beyond the jobs kept, and there is one
+  -- every such answer is this one, the places beyond the jobs keep what they held, and there is one
   pub record OnlyFinishes (fs : List ℕ) : Type 0 where
     pub only : EachWalk (λ before r after. (r ≡ Accepted) × (after ≡ fs ++ drop (length fs) before))
     pub some : (before : List ℕ) → length releases ≤ length before
         → (r : Answer) × (after : List ℕ) × WalkAnswer F m table task releases jobs before r after
 
-  -- the task's units in a frame, T, c and the jobs meet the premises of the bound, and every such answer keeps the bound
-  pub record OnPace (T c passed-by last : ℕ) : Type 0 where
+  -- the task's units in a frame, T, c and the jobs meet the premises of the bound; every such answer keeps the bound, and in every one the
+  -- first finish is past the release + T but not past the release + T + F
+  pub record OnPace (T c past last : ℕ) : Type 0 where
     pub premises : Paced F (units F (piecesOf table) task F) T c (length releases) (at releases) (at jobs)
     pub bounded : EachWalk (λ before r after. Bounded F T (length releases) (at releases) (at after))
-    pub with-period : at releases 0 + T ≡ passed-by
+    pub with-period : at releases 0 + T ≡ past
     pub with-frame : at releases 0 + T + F ≡ last
-    pub first : EachWalk (λ before r after. (passed-by < at after 0) × (at after 0 ≤ last))
+    pub first : EachWalk (λ before r after. (past < at after 0) × (at after 0 ≤ last))
 
 abbrev pub Holds : Example → Type 0
 Holds (allocates F m budgets masks given) = OnlyAllocation F m budgets masks given
@@ -110,7 +111,7 @@ Holds (total F m budgets sum all) = (sumTo (length budgets) (at budgets) ≡ sum
 Holds (answers c v d w) = ((line : List ℕ) → LineAnswer (digits c v) line → line ≡ digits d w) × LineAnswer (digits c v) (digits d w)
 Holds (moved F m table count) = (checkAnswer F m table ≡ Accepted) × (movesAnswer F m table ≡ record { answer = Accepted; moves = count })
 Holds (finishes F m table task releases jobs fs) = OnlyFinishes F m table task releases jobs fs
-Holds (paced F m table task releases jobs T c passed-by last) = OnPace F m table task releases jobs T c passed-by last
+Holds (paced F m table task releases jobs T c past last) = OnPace F m table task releases jobs T c past last
 
 -- all of a list hold
 abbrev pub AllHold : List Example → Type 0

@@ -1,13 +1,12 @@
 -- The premises of the finish bound can be met: P10 meets them, and the bound then holds of every answer of walk.
 -- P9 and P10 themselves, and "the first passes 13 but not 19", stand among the rules' settled examples.
 -- Assumes nothing.
-use mathlib.Core.List.{List, [], _∷_}
+use mathlib.Core.List.{[], _∷_}
 use Rattle.rules.specs.Piece.{piecesOf}
 use Rattle.rules.specs.Service.{units}
 use Rattle.rules.specs.Paced.{Paced, Bounded}
 use Rattle.rules.specs.Plan.{at}
 use Rattle.rules.specs.Settled.{EachWalk, tableP1}
-use Rattle.rules.specs.declared.Answer.{Answer}
 use Rattle.rules.proofs.Settled.Finishes.{finishes10, paced10}
 use Rattle.walker.proofs.Accepted.{walked-finish-by-release-plus-period-plus-frame, walked-finish-by-release-plus-period}
 

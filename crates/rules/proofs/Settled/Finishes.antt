@@ -20,9 +20,8 @@ use Rattle.rules.specs.Tests.{Tested, passed, badFrame, badCores}
 use Rattle.rules.specs.Plan.{at}
 use Rattle.rules.specs.Check.{checkAnswer, movesAnswer}
 use Rattle.rules.specs.Jobs.{badJobCount, early, badJob, firstBadJob, firstAsking}
-use Rattle.rules.specs.Walked.{walkTested, WalkDone, WalkAnswerAt, WalkAnswer}
+use Rattle.rules.specs.Walked.{walkTested, WalkDone, WalkAnswerAt}
 use Rattle.rules.specs.Settled.{OnlyFinishes, Holds, moved, finishes, paced, tableP1}
-use Rattle.rules.specs.declared.Answer.{Answer}
 use Rattle.rules.specs.declared.Answer.the-variants.{Accepted}
 use Rattle.rules.proofs.Walked.{walked-unique}
 

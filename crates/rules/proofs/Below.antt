@@ -13,20 +13,20 @@ abbrev pub allBelow : ℕ → (ℕ → Bool) → Bool
 allBelow zero p = true
 allBelow (suc n) p = allBelow n p && p n
 
-left : (a b : Bool) → T (a && b) → T a
-left true b t = tt
-left false b t = t
+pub and-left : (a b : Bool) → T (a && b) → T a
+and-left true b t = tt
+and-left false b t = t
 
-right : (a b : Bool) → T (a && b) → T b
-right true b t = t
-right false b t = absurd t
+pub and-right : (a b : Bool) → T (a && b) → T b
+and-right true b t = t
+and-right false b t = absurd t
 
 pub each-below : (n : ℕ) (p : ℕ → Bool) → T (allBelow n p) → (k : ℕ) → k < n → T (p k)
 each-below zero p t k h = absurd (not-suc-le-zero h)
 each-below (suc n) p t k h =
     elim (ℕ-discrete k n) [
-      | yes e ↦ subst (λ (i : ℕ). T (p i)) (sym e) (right (allBelow n p) (p n) t)
-      | no ne ↦ each-below n p (left (allBelow n p) (p n) t) k (omega arith)
+      | yes e ↦ subst (λ (i : ℕ). T (p i)) (sym e) (and-right (allBelow n p) (p n) t)
+      | no ne ↦ each-below n p (and-left (allBelow n p) (p n) t) k (omega arith)
     ]
 
 both : (a b : Bool) → T a → T b → T (a && b)

@@ -15,7 +15,7 @@ use Rattle.rules.proofs.Below.{allBelow, each-below, below-each}
 use Rattle.rules.proofs.OneTask.{OneTask, one-task-no-loop}
 
 -- from a test that says "not this or that" and this, that
-or-right : (a b : Bool) → T (not a || b) → T a → T b
+pub or-right : (a b : Bool) → T (not a || b) → T a → T b
 or-right true b t p = t
 or-right false b t p = absurd p
 

@@ -13,7 +13,7 @@ use Rattle.rules.specs.Moves.{insert}
 use Rattle.rules.specs.Layout.{ahead, begun, stretch, reachOne, reach, meetMark, meetOne, meet, visitMark, visit, waiting, unvisited, nextCore, visits, layout}
 use Rattle.rules.specs.Table.{row, cells, cellAt, cut, insertAll, piecesOn, coreTo, coresTo, tableOfCells, tableOf}
 use Rattle.rules.specs.Tests.{testedSet, badFrame, badCores, badTasks, badMask, badBudget, tested}
-use Rattle.rules.specs.Settled.{Only, tableP1}
+use Rattle.rules.specs.Settled.{OnlyAllocation, Only, tableP1}
 use Rattle.rules.specs.declared.Answer.the-variants.{Accepted}
 use Rattle.rules.proofs.Computed.{insideTest, exactTest, withinTest, allocation-computed, oneTest, loop-free-computed, fitTest, no-group-computed}
 use Rattle.rules.proofs.Settled.Sets.{Alloc, Passes, accepted-only}
@@ -38,15 +38,19 @@ cells1 x a =
     let e21 : x 2 1 ≡ 5 = omega arith in
     cc
 
+pub allocation1 : OnlyAllocation 6 2 (4 ∷ 3 ∷ 5 ∷ []) (0b11 ∷ 0b01 ∷ 0b10 ∷ []) (3 ∷ 1 ∷ 3 ∷ 0 ∷ 0 ∷ 5 ∷ [])
+unfolding sumTo has insideTest exactTest withinTest oneTest
+allocation1 = record { only = cells1; some = allocation-computed 3 2 _ _ _ _ tt tt tt; loop-free = loop-free-computed 3 2 0 _ tt }
+
 table1 : (x : ℕ → ℕ → ℕ) → Alloc 6 2 (4 ∷ 3 ∷ 5 ∷ []) (0b11 ∷ 0b01 ∷ 0b10 ∷ []) x → numbersOf (tableOf 6 3 2 x) ≡ tableP1
 unfolding sumTo lowest ahead begun stretch reachOne reach meetMark meetOne meet visitMark visit waiting unvisited nextCore visits layout cut insertAll piecesOn coreTo coresTo tableOfCells tableOf insert
-table1 x a = rw (cells1 x a)
+table1 x a = rw (allocation1 .only x a)
 
 pub p1 : Only 6 2 (4 ∷ 3 ∷ 5 ∷ []) (0b11 ∷ 0b01 ∷ 0b10 ∷ []) Accepted tableP1
-unfolding sumTo has union groupBudget capacity groupCapacity insideTest exactTest withinTest oneTest fitTest
+unfolding sumTo has union groupBudget capacity groupCapacity fitTest
 p1 =
     accepted-only 6 2 (4 ∷ 3 ∷ 5 ∷ []) (0b11 ∷ 0b01 ∷ 0b10 ∷ []) tableP1 pass1 table1 (no-group-computed 3 2 _ _ _ tt) (cellAt 2 (3 ∷ 1 ∷ 3 ∷ 0 ∷ 0 ∷ 5 ∷ []))
-    (allocation-computed 3 2 _ _ _ _ tt tt tt) (loop-free-computed 3 2 0 _ tt)
+    (allocation1 .some) (allocation1 .loop-free)
 
 pass5 : Passes 10 1 (5 ∷ 5 ∷ []) (0b1 ∷ 0b1 ∷ [])
 unfolding tested testedSet badFrame badCores badTasks badMask badBudget firstAt

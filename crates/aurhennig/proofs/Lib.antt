@@ -1,3 +1,4 @@
 pub mod CallLaws
 pub mod NeverSix
 pub mod OneAnswer
+pub mod Told

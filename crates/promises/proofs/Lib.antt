@@ -1,4 +1,5 @@
 pub mod Agreed
+pub mod Carried
 pub mod Extras
 pub mod Obeyed
 pub mod Signed

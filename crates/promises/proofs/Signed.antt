@@ -14,7 +14,7 @@ use Rattle.rules.specs.Sum.{firstAt}
 use Rattle.rules.specs.Answer.{numberOf, valuesOf}
 use Rattle.rules.specs.Extra.{extra}
 use Rattle.rules.specs.Piece.{Piece, firstPieces, numbersOf, wholePieces}
-use Rattle.rules.specs.FrameTable.{every, everyTwo, taskApart, frameTable}
+use Rattle.rules.specs.FrameTable.{every, everyTwo, taskApart, framePieces, frameTable}
 use Rattle.rules.specs.Service.{units}
 use Rattle.rules.specs.Allocation.{limitOf}
 use Rattle.rules.specs.Excess.{Overload}
@@ -97,6 +97,10 @@ module _ (F m : ℕ) (budgets masks before : List ℕ) (pass : tested F m budget
     where
       accepts : checkAnswer F m (numbersOf ps) ≡ Accepted
       accepts = check-accepts F m (numbersOf ps) (d .given .frame-some) (d .given .frame) (d .given .cores-some) (d .given .cores) (table-is-frame-table F n m x all-ready)
+
+  -- the pieces that stand there are those of a frame table, within the sizes
+  pub planned-within : (framePieces F m (firstPieces after (r .pieces)) ≡ true) × (F ≤ 1000000) × (m ≤ 16)
+  planned-within = (ap (framePieces F m) stand ∙ obeys .table, d .given .frame, d .given .cores)
 
 -- no test refuses with 0 or 7
 by-tests : Tested → ℕ

@@ -2,7 +2,7 @@
 -- Assumes nothing.
 use Prim.Native.Nat.{ℕ, _+_, _*_, _/_, _^_}
 use mathlib.Core.Bool.{Bool, cond, not, _||_}
-use mathlib.Core.List.{List}
+use mathlib.Core.List.{List, [], _∷_}
 use lib.Dec.{eqb, ltb}
 use lib.ListN.{length}
 use Rattle.rules.specs.Sizes.{maxFrame, maxCores, maxTasks}
@@ -57,3 +57,8 @@ thenRoom short passed = cond short (refused ShortTable) passed
 -- the tests 1 to 6
 unfoldable pub tested : ℕ → ℕ → List ℕ → List ℕ → List ℕ → Tested
 tested F m budgets masks table = thenRoom (shortTable (length budgets) m (wholePieces table)) (testedSet F m budgets masks)
+
+-- the column "carries" of the answers that these tests give, by their number: "lowest such task" for 4 and 5, otherwise nothing
+unfoldable pub planCarries : ℕ → ℕ → List ℕ → List ℕ → ℕ → List ℕ
+planCarries F m budgets masks number =
+    cond (eqb number 4) (firstAt (badMask m) masks ∷ []) (cond (eqb number 5) (firstAt (badBudget F) budgets ∷ []) [])

@@ -2,7 +2,7 @@
 -- Assumes nothing.
 use mathlib.Core.Path.{_≡_}
 use mathlib.Core.Bool.{cond, _&&_}
-use mathlib.Core.List.{List}
+use mathlib.Core.List.{List, [], _∷_}
 use Prim.Native.Nat.{ℕ}
 use lib.Dec.{eqb, ltb}
 use lib.ListN.{length, getD, drop}
@@ -26,6 +26,12 @@ walkTested F m table task releases jobs finishes =
     (cond (eqb (units F (piecesOf table) task F) 0 && ltb (firstAsking jobs) (length jobs)) (refused (NoUnits (firstAsking jobs)))
     (cond (ltb (length finishes) (length releases)) (refused ShortFinishes) passed))))
     (refused NotTable)))
+
+-- the column "carries" of these answers, by their number: the job of 9, which is 0 where the lists differ in number or are too long, and the
+-- "first such job" of 10
+unfoldable pub walkCarries : List ℕ → List ℕ → ℕ → List ℕ
+walkCarries releases jobs number =
+    cond (eqb number 9) (cond (badJobCount releases jobs) 0 (firstBadJob releases jobs) ∷ []) (cond (eqb number 10) (firstAsking jobs ∷ []) [])
 
 -- a refusal: the lent list keeps all
 pub record WalkRefusal (a : Answer) (before : List ℕ) (r : Answer) (after : List ℕ) : Type 0 where

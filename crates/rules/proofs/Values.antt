@@ -1,5 +1,7 @@
 -- Values worked out by hand, beside those of document 01: each definition that can be run agrees with them.
 -- Assumes nothing.
+mod Signed
+mod Carried
 use mathlib.Core.Path.{_≡_, refl}
 use mathlib.Core.Bool.{true, false}
 use mathlib.Core.List.{List, [], _∷_}

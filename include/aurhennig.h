@@ -47,7 +47,7 @@ extern "C" {
  * Any bytes may stand at `input`, and any number of them. Both pointers are not null, point to that many bytes that nothing else writes during
  * the call, and the two do not overlap.
  *
- * The call allocates no memory and keeps no state from one call to the next. It uses a few kilobytes of the stack and may be called from
+ * The call allocates no memory and keeps no state from one call to the next. It uses about twelve kilobytes of the stack and may be called from
  * several threads at once on different buffers. The same line always gets the same answer.
  */
 size_t aurhennig_plan_line(const uint8_t *input, size_t input_len, uint8_t *output, size_t output_len);

@@ -1,7 +1,7 @@
 -- "there 6 can't occur, as it lends 95 pieces": no line is answered with 6.
 -- Assumes nothing.
-use mathlib.Core.Path.{_≡_, refl, sym, _∙_, ap}
-use mathlib.Core.Bool.{Bool, true, false, cond, not}
+use mathlib.Core.Path.{_≡_, sym, _∙_, ap}
+use mathlib.Core.Bool.{Bool, true, false, not, true≢false}
 use mathlib.Core.List.{List, []}
 use Prim.Native.Nat.{ℕ, _+_, _*_}
 use native.Mathlib.Omega.{arith}
@@ -10,13 +10,13 @@ use lib.ListN.{length}
 use borrow.Author.Tests.{ltb-false, le-ltb}
 use Rattle.rules.specs.Answer.{numberOf}
 use Rattle.rules.specs.Piece.{firstPieces, wholePieces}
-use Rattle.rules.specs.Sum.{firstAt}
-use Rattle.rules.specs.Tests.{Tested, refused, passed, testedSet, thenRoom, tested, badFrame, badCores, badTasks, badMask, badBudget, shortTable}
+use Rattle.rules.specs.Tests.{Tested, refused, passed, tested, badCores, badTasks, shortTable}
 use Rattle.rules.specs.Plan.{PlanAnswerAt, Decided, planned, overloaded}
 use Rattle.rules.specs.Line.{digitsAt, wellWritten, lineFrame, lineCores, lineBudgets, lineMasks}
 use Rattle.rules.specs.LineCall.{lentTable, LineAnswerAt, LineAnswer}
-use Rattle.rules.specs.declared.Answer.the-variants.{FrameLength, CoreCount, TaskCount, Mask, Budget, BadLine}
+use Rattle.rules.specs.declared.Answer.the-variants.{BadLine}
 use Rattle.rules.specs.declared.Planned.{Planned}
+use Rattle.tests.proofs.Cases.{tested-cases}
 use Rattle.sums.proofs.Both.{or-left, or-right}
 use Rattle.answerline.proofs.Distinct.{number-back}
 
@@ -32,23 +32,11 @@ six (refused a) = numberOf a
 six passed = 0
 
 -- no way through the tests ends at 6
-through : (f c t k b s : Bool) (i j : ℕ) → (c ≡ false → t ≡ false → s ≡ false)
-    → six (thenRoom s (cond f (refused FrameLength) (cond c (refused CoreCount) (cond t (refused TaskCount) (cond k (refused (Mask i)) (cond b (refused (Budget j)) passed)))))) ≡ 6
-    → ⊥
-unfolding six
-through true c t k b s i j h e = omega arith
-through false true t k b s i j h e = omega arith
-through false false true k b s i j h e = omega arith
-through false false false true b s i j h e = omega arith
-through false false false false true s i j h e = omega arith
-through false false false false false false i j h e = omega arith
-through false false false false false true i j h e = let z : _≡_ {A = ℕ} 0 1 = cc (h refl refl) in omega arith
-
 tested-never-six : (F m : ℕ) (bs ms : List ℕ) → six (tested F m bs ms lentTable) ≡ 6 → ⊥
-unfolding tested testedSet
+unfolding six
 tested-never-six F m bs ms e =
-    through (badFrame F) (badCores m) (badTasks bs ms) (ltb (firstAt (badMask m) ms) (length ms)) (ltb (firstAt (badBudget F) bs) (length bs))
-    (shortTable (length bs) m (wholePieces lentTable)) (firstAt (badMask m) ms) (firstAt (badBudget F) bs) (enough m bs ms) e
+    tested-cases F m bs ms lentTable (λ t. six t ≡ 6 → ⊥) (λ z. omega arith) (λ z. omega arith) (λ z. omega arith) (λ t k z. omega arith) (λ t b z. omega arith)
+    (λ c t s z. true≢false (sym s ∙ enough m bs ms c t)) (λ z. omega arith) e
 
 module _ (F m : ℕ) (bs ms : List ℕ) (r : Planned) (t : List ℕ) where
   decided-never-six : Decided F m bs ms lentTable r t → numberOf (r .answer) ≡ 6 → ⊥

@@ -2,7 +2,7 @@
 -- same table.
 -- Assumes nothing.
 use mathlib.Core.Path.{_≡_, refl, sym, _∙_, ap, subst}
-use mathlib.Core.Bool.{Bool, true, false, cond, not, _&&_}
+use mathlib.Core.Bool.{true, false, not, _&&_}
 use mathlib.Core.List.{List, [], _∷_}
 use Prim.Native.Nat.{ℕ, zero, suc, _^_, _≤_, _<_}
 use native.Mathlib.Nat.{lt-of-lt-of-le}
@@ -14,9 +14,9 @@ use lib.Pow.{pow-mono}
 use Rattle.rules.specs.Sum.{firstAt}
 use Rattle.rules.specs.Sets.{union}
 use Rattle.rules.specs.Answer.{numberOf}
-use Rattle.rules.specs.Piece.{Piece, firstPieces, wholePieces}
+use Rattle.rules.specs.Piece.{Piece, firstPieces}
 use Rattle.rules.specs.FrameTable.{every, everyTwo, sound, ordered, coreApart, taskApart, framePieces}
-use Rattle.rules.specs.Tests.{Tested, refused, passed, testedSet, thenRoom, tested, badFrame, badCores, badTasks, badMask, badBudget, shortTable}
+use Rattle.rules.specs.Tests.{Tested, refused, passed, tested, badTasks, badMask, badBudget}
 use Rattle.rules.specs.Plan.{at, Refusal, Decided, planned, overloaded, PlanAnswer, PlanAnswerAt}
 use Rattle.rules.specs.Line.{answerLine}
 use Rattle.rules.specs.declared.Answer.{Answer}
@@ -27,6 +27,7 @@ use Rattle.sums.proofs.Both.{and-left, and-right, or-left, or-right}
 use Rattle.sums.proofs.Sets.{union-lt}
 use Rattle.stretches.proofs.Readings.{Sound, sound-reads}
 use Rattle.tests.specs.Given.{Admitted}
+use Rattle.tests.proofs.Cases.{tested-cases}
 use Rattle.tests.proofs.PassedLaws.{passed-ready}
 use Rattle.answerline.specs.Shown.{PieceFits, PiecesFit, Shown}
 use Rattle.answerline.proofs.Distinct.{no-two-answers-share-a-line, no-two-tables-share-a-line}
@@ -52,17 +53,6 @@ Fits : Tested → Type 0
 Fits (refused a) = Shown a []
 Fits passed = Unit {0}
 
-tests-fit : (f c t k b s : Bool) (i j : ℕ) → (t ≡ false → k ≡ true → i < 2 ^ 8) → (t ≡ false → b ≡ true → j < 2 ^ 8)
-    → Fits (thenRoom s (cond f (refused FrameLength) (cond c (refused CoreCount) (cond t (refused TaskCount) (cond k (refused (Mask i)) (cond b (refused (Budget j)) passed))))))
-unfolding Fits
-tests-fit true c t k b s i j h g = tt
-tests-fit false true t k b s i j h g = tt
-tests-fit false false true k b s i j h g = tt
-tests-fit false false false true b s i j h g = h refl refl
-tests-fit false false false false true s i j h g = g refl refl
-tests-fit false false false false false true i j h g = tt
-tests-fit false false false false false false i j h g = tt
-
 module _ (F m : ℕ) (budgets masks before : List ℕ) where
   low : (n k : ℕ) → n ≤ 64 → ltb k n ≡ true → k < 2 ^ 8
   low n k h e = omega (arith, ltb-true k n e)
@@ -76,12 +66,11 @@ module _ (F m : ℕ) (budgets masks before : List ℕ) where
   paired e = omega (arith, tasks e, eqb-true (length budgets) (length masks) (not-false _ (or-right (ltb 64 (length budgets)) (not (eqb (length budgets) (length masks))) e)))
 
   refused-fits : (a : Answer) → tested F m budgets masks before ≡ refused a → Shown a []
-  unfolding tested testedSet Fits
+  unfolding Fits
   refused-fits a e =
       subst Fits e
-      (tests-fit (badFrame F) (badCores m) (badTasks budgets masks) (ltb (firstAt (badMask m) masks) (length masks)) (ltb (firstAt (badBudget F) budgets) (length budgets))
-      (shortTable (length budgets) m (wholePieces before)) (firstAt (badMask m) masks) (firstAt (badBudget F) budgets)
-      (λ t k. low (length masks) (firstAt (badMask m) masks) (paired t) k) (λ t b. low (length budgets) (firstAt (badBudget F) budgets) (tasks t) b))
+      (tested-cases F m budgets masks before Fits tt tt tt (λ t k. low (length masks) (firstAt (badMask m) masks) (paired t) k)
+      (λ t b. low (length budgets) (firstAt (badBudget F) budgets) (tasks t) b) (λ c t s. tt) tt)
 
 -- the pieces of a frame table fit their fields
 module _ (F m : ℕ) (frame : F ≤ 1000000) (cores : m ≤ 16) where

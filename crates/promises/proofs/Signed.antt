@@ -1,35 +1,34 @@
 -- Demand 2 as a customer signs it: what an answer that plan's contract allows says. Each statement starts from the contract alone.
 -- Assumes nothing.
 use mathlib.Core.Path.{_≡_, refl, sym, _∙_, ap, subst}
-use mathlib.Core.Bool.{Bool, true, false, cond}
+use mathlib.Core.Bool.{true}
 use mathlib.Core.List.{List}
 use Prim.Native.Nat.{ℕ, _+_, _*_, _≤_}
 use native.Mathlib.Nat.{le-refl}
 use native.Mathlib.Omega.{arith}
 use borrow.Author.Tests.{le-ltb, ne-eqb}
-use lib.Dec.{ltb}
 use lib.ListN.{length, drop, length-append, length-drop}
 use Rattle.rules.specs.Sets.{union}
-use Rattle.rules.specs.Sum.{firstAt}
 use Rattle.rules.specs.Answer.{numberOf, valuesOf}
 use Rattle.rules.specs.Extra.{extra}
-use Rattle.rules.specs.Piece.{Piece, firstPieces, numbersOf, wholePieces}
+use Rattle.rules.specs.Piece.{Piece, firstPieces, numbersOf}
 use Rattle.rules.specs.FrameTable.{every, everyTwo, taskApart, framePieces, frameTable}
 use Rattle.rules.specs.Service.{units}
 use Rattle.rules.specs.Allocation.{limitOf}
 use Rattle.rules.specs.Excess.{Overload}
 use Rattle.rules.specs.Table.{tableOf}
-use Rattle.rules.specs.Tests.{Tested, refused, passed, testedSet, thenRoom, tested, badFrame, badCores, badTasks, badMask, badBudget, shortTable}
+use Rattle.rules.specs.Tests.{Tested, refused, passed, tested, badFrame, badCores}
 use Rattle.rules.specs.Obeys.{allowed, Obeys}
 use Rattle.rules.specs.Check.{checkAnswer}
 use Rattle.rules.specs.Plan.{at, Refusal, PlannedBy, Decided, planned, overloaded, PlanAnswer, PlanAnswerAt}
 use Rattle.rules.specs.Signed.{SignedTable, RefusedExactly}
 use Rattle.rules.specs.declared.Answer.{Answer}
-use Rattle.rules.specs.declared.Answer.the-variants.{Accepted, FrameLength, CoreCount, TaskCount, Mask, Budget, Overloaded}
+use Rattle.rules.specs.declared.Answer.the-variants.{Accepted, Overloaded}
 use Rattle.rules.specs.declared.Planned.{Planned}
 use Rattle.rules.proofs.Numbers.{length-numbers}
 use Rattle.sums.proofs.Sets.{has-zero}
 use Rattle.tests.specs.Given.{Admitted}
+use Rattle.tests.proofs.Cases.{tested-cases}
 use Rattle.tests.proofs.PassedLaws.{passed-ready}
 use Rattle.forest.proofs.Forest.{extra-below-cores}
 use Rattle.overload.proofs.Exists.{overloaded-exactly-without-allocation}
@@ -107,25 +106,16 @@ by-tests : Tested → ℕ
 by-tests (refused a) = numberOf a
 by-tests passed = 1
 
-tests-refuse : (f c t k b s : Bool) (i j : ℕ)
-    → let v = by-tests (thenRoom s (cond f (refused FrameLength) (cond c (refused CoreCount) (cond t (refused TaskCount) (cond k (refused (Mask i)) (cond b (refused (Budget j)) passed))))))
-    in (1 ≤ v) × (v ≤ 6)
-unfolding by-tests
-tests-refuse true c t k b s i j = (omega arith, omega arith)
-tests-refuse false true t k b s i j = (omega arith, omega arith)
-tests-refuse false false true k b s i j = (omega arith, omega arith)
-tests-refuse false false false true b s i j = (omega arith, omega arith)
-tests-refuse false false false false true s i j = (omega arith, omega arith)
-tests-refuse false false false false false true i j = (omega arith, omega arith)
-tests-refuse false false false false false false i j = (omega arith, omega arith)
-
 module _ (F m : ℕ) (budgets masks before : List ℕ) where
   pub refused-by-tests : (a : Answer) → tested F m budgets masks before ≡ refused a → (1 ≤ numberOf a) × (numberOf a ≤ 6)
-  unfolding tested testedSet by-tests
+  unfolding by-tests
   refused-by-tests a e =
-      subst (λ (v : Tested). (1 ≤ by-tests v) × (by-tests v ≤ 6)) e
-      (tests-refuse (badFrame F) (badCores m) (badTasks budgets masks) (ltb (firstAt (badMask m) masks) (length masks)) (ltb (firstAt (badBudget F) budgets) (length budgets))
-      (shortTable (length budgets) m (wholePieces before)) (firstAt (badMask m) masks) (firstAt (badBudget F) budgets))
+      subst within e
+      (tested-cases F m budgets masks before within (omega arith, omega arith) (omega arith, omega arith) (omega arith, omega arith) (λ t k. (omega arith, omega arith))
+      (λ t b. (omega arith, omega arith)) (λ c t s. (omega arith, omega arith)) (omega arith, omega arith))
+    where
+      within : Tested → Type 0
+      within t = (1 ≤ by-tests t) × (by-tests t ≤ 6)
 
   module _ (r : Planned) (after : List ℕ) where
     not-by-tests : (a : Answer) → tested F m budgets masks before ≡ refused a → Refusal a before r after → r .answer ≡ Accepted → ⊥

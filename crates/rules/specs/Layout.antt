@@ -31,7 +31,8 @@ module _ (n m : ℕ) (x : ℕ → ℕ → ℕ) where
   unfoldable pub stretch : Walk → ℕ → ℕ → ℕ
   stretch w t j = w .start j + ahead (w .first j) (λ i. x i j) t
 
-  -- task t, met on core j where it starts at s, reaches core k: "Each of these starts where that task's previous stretch ended"
+  -- task t, met on core j where it starts at s, reaches core k: "Each of these starts where that task's previous stretch ended". Without loops
+  -- each core is reached once at most, so that no start is written over another.
   unfoldable pub reachOne : ℕ → ℕ → ℕ → ℕ → Walk → Walk
   reachOne t j s k w =
       elim (x t k) [

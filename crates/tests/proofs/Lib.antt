@@ -1,3 +1,4 @@
+pub mod Cases
 pub mod FirstLaws
 pub mod PassedLaws
 pub mod TestLaws

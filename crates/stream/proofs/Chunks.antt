@@ -140,12 +140,15 @@ module _ {A : List ℕ → List ℕ → Type 0} where
   kept-begun {b} {k} (kept ne) h = simp length-append (omega arith)
   kept-begun (ended a e g) h = absurd (h e)
 
-  left-begun : {l o k : List ℕ} (t : List ℕ) (b : ℕ) → Lines A l (t ++ (b ∷ [])) o k → (b ≡ 10 → ⊥) → 0 < length k
+  pub left-begun : {l o k : List ℕ} (t : List ℕ) (b : ℕ) → Lines A l (t ++ (b ∷ [])) o k → (b ≡ 10 → ⊥) → 0 < length k
   left-begun t b q h = kept-begun (before t b q refl .step) h
 
   ended-none : {b : ℕ} {k a j : List ℕ} → Step A b k a j → b ≡ 10 → length j ≡ 0
   ended-none (kept ne) e = absurd (ne e)
   ended-none (ended a f g) e = refl
+
+  pub left-none : {l o k : List ℕ} (t : List ℕ) (b : ℕ) → Lines A l (t ++ (b ∷ [])) o k → b ≡ 10 → length k ≡ 0
+  left-none t b q e = ended-none (before t b q refl .step) e
 
   last-answered : {t o k a j : List ℕ} {b : ℕ} → Lines A [] t o k → 0 < length k → Step A b k a j → b ≡ 10 → Answers A t (o ++ a)
   last-answered q some (kept ne) e = absurd (ne e)

@@ -69,6 +69,11 @@ module _ {A : List ℕ → List ℕ → Type 0} where
       subst (λ (x : List ℕ). Lines A l x (o ++ (p ++ a)) j) (append-assoc t u (b ∷ []))
       (subst (λ (x : List ℕ). Lines A l ((t ++ u) ++ (b ∷ [])) x j) (append-assoc o p a) (more b (lines-join q r) s))
 
+  -- a text without a byte leaves the line begun that was
+  pub lines-of-none : {l s o k : List ℕ} → Lines A l s o k → s ≡ [] → l ≡ k
+  lines-of-none none e = refl
+  lines-of-none (more {t = t} b r w) e = absurd (no-last t b (sym e))
+
   before : {l s o k : List ℕ} (t : List ℕ) (b : ℕ) → Lines A l s o k → s ≡ t ++ (b ∷ []) → Before A l t b o k
   before t b none e = absurd (no-last t b e)
   before {l} {k = j} t b (more {t = u} {o = p} {k = k} {a = a} c q s) e =

@@ -4,4 +4,5 @@ pub mod TakeLaws
 pub mod LineLaws
 pub mod ReadLaws
 pub mod LoopLaws
+pub mod Rounds
 pub mod Unique

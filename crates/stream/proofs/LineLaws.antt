@@ -16,7 +16,7 @@ use Rattle.stream.proofs.Chunks.{lines-join}
 use Rattle.stream.proofs.TakeLaws.{kept-room, kept-full, taking-feed, taking-byte, taking-none}
 
 -- one byte more of a line
-holds-none : (buffer : List ℕ) → Holds buffer 0 []
+pub holds-none : (buffer : List ℕ) → Holds buffer 0 []
 holds-none buffer = record { count = omega arith; bytes = sym (take-nil (length buffer)) }
 
 holds-byte : (buffer : List ℕ) (len b : ℕ) (l : List ℕ) → Holds buffer len l → Holds (set buffer len b) (keptCount buffer len) (l ++ (b ∷ []))

@@ -34,7 +34,7 @@ pub record Opened (input : List ℕ) (s : Source) : Type 0 where
   pub chunk : s .begun ≡ lastBegins input (s .end)
   pub last : s .unwritten ≡ false → s .left ≡ 0 → s .begun ≡ false
 
-no-false : {P : Type 0} → true ≡ false → P
+pub no-false : {P : Type 0} → true ≡ false → P
 no-false e = let z : _≡_ {A = ℕ} 0 1 = cc in absurd (omega arith)
 
 -- before the first byte

@@ -55,9 +55,13 @@ pub record Handed (before : Source) (was input : List ℕ) (r : Source) : Type 0
   pub no-more : ahead r ≤ ahead before
   pub next : Next before was input r
 
--- so many bytes of the chunk are taken, and not more than it has; or writing failed, and nothing comes any more
+-- so many bytes of the chunk are taken, and not more than it has
+abbrev pub movedOn : Source → ℕ → Source
+movedOn s taken = record { left = s .left; at = min (s .at + taken) (s .end); end = s .end; begun = s .begun; unread = s .unread; unwritten = s .unwritten }
+
+-- their answers are written; or writing failed, and nothing comes any more
 pub data Passed (before : Source) (taken : ℕ) (r : Source) : Type 0 where
-  written : r ≡ record { left = before .left; at = min (before .at + taken) (before .end); end = before .end; begun = before .begun; unread = before .unread; unwritten = before .unwritten } → Passed before taken r
+  written : r ≡ movedOn before taken → Passed before taken r
   lost : r ≡ record { left = 0; at = before .end; end = before .end; begun = before .begun; unread = before .unread; unwritten = true } → Passed before taken r
 
 -- how a program over lines ended, where of a line that got no answer `len` bytes are kept: nothing is left of the chunk and nothing may still

@@ -2,17 +2,16 @@
 -- the same once a chunk is taken.
 -- Assumes nothing.
 use mathlib.Core.Path.{_≡_, refl, sym, subst, _∙_, ap}
-use mathlib.Core.Bool.{Bool, true, false, not}
+use mathlib.Core.Bool.{true, false, not}
 use mathlib.Core.List.{List, [], _∷_, _++_}
-use Prim.Native.Nat.{ℕ, zero, suc, _+_, _-_, _≤_, _<_, min}
+use Prim.Native.Nat.{ℕ, suc, _-_, _≤_, _<_}
 use native.Mathlib.Decide.{decLt, ℕ-discrete}
-use native.Mathlib.Numerals.{add-one}
 use native.Mathlib.Omega.{arith}
 use lib.Dec.{ltb, eqb}
 use lib.ListN.{length, getD, take, drop, length-take, length-drop}
 use lib.Seq.{take-all, take-suc, getD-take, getD-drop}
 use borrow.Author.Tests.{lt-ltb, le-ltb, ltb-false, eq-eqb, ne-eqb}
-use Rattle.stream.specs.Lines.{Lines, Holds, FedLine, Fed}
+use Rattle.stream.specs.Lines.{Lines, Holds, Fed}
 use Rattle.stream.specs.Reading.{started, ahead, lastBegins, stoppedAt, Last, none-begun, given-its-feed, no-place, Read, came, ended, failed, stopped, Next, rest, read, Handed, Passed, written, lost, Ended}
 use Rattle.stream.specs.declared.input.Source.{Source}
 use Rattle.stream.specs.declared.line.Stage.{Stage}

@@ -1,14 +1,13 @@
 -- Laws on the input while it is read in chunks and its answers are written: each case of what is handed out, as the code comes to it.
 -- Assumes nothing.
-use mathlib.Core.Path.{_≡_, refl, sym, subst, _∙_, ap}
-use mathlib.Core.Bool.{Bool, true, false, not}
+use mathlib.Core.Path.{_≡_, refl, ap}
+use mathlib.Core.Bool.{true, false}
 use mathlib.Core.List.{List}
-use Prim.Native.Nat.{ℕ, _+_, _-_, _≤_, _<_, min}
+use Prim.Native.Nat.{ℕ, _+_, _≤_, _<_, min}
 use native.Mathlib.Omega.{arith}
-use lib.Dec.{eqb}
-use lib.ListN.{length, getD, set, length-set}
+use lib.ListN.{length, set, length-set}
 use lib.Seq.{getD-set-same}
-use Rattle.stream.specs.Reading.{ahead, lastBegins, stoppedAt, Last, none-begun, given-its-feed, no-place, Read, came, ended, failed, stopped, Next, rest, read, Handed, Passed, written, lost}
+use Rattle.stream.specs.Reading.{ahead, stoppedAt, Last, none-begun, given-its-feed, no-place, Read, came, ended, failed, stopped, rest, read, Handed, Passed, written, lost}
 use Rattle.stream.specs.declared.input.Source.{Source}
 
 -- the end of the input

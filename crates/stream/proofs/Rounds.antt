@@ -9,12 +9,11 @@ use Prim.Native.Nat.{ℕ, zero, suc, _+_, _-_, _≤_, _<_, min}
 use native.Mathlib.Decide.{decLt, ℕ-discrete}
 use native.Mathlib.Nat.{sub-zero, zero-sub, suc-sub-suc}
 use native.Mathlib.Omega.{arith}
-use lib.Dec.{eqb}
-use lib.ListN.{length, getD, take, drop, length-take, length-drop, take-append-drop}
+use lib.ListN.{length, getD, take, drop, length-take, take-append-drop}
 use lib.Seq.{take-suc, take-nil, drop-drop}
 use borrow.Author.Tests.{eq-eqb, ne-eqb}
-use Rattle.stream.specs.Lines.{Lines, none, Holds, FedLine, Fed, Answers, all-ended}
-use Rattle.stream.specs.Reading.{started, lastBegins, movedOn, Last, none-begun, given-its-feed, no-place, Read, came, ended, failed, stopped, Next, rest, read, Handed}
+use Rattle.stream.specs.Lines.{Lines, none, Holds, Fed, Answers, all-ended}
+use Rattle.stream.specs.Reading.{lastBegins, movedOn, Last, none-begun, given-its-feed, no-place, Read, came, ended, failed, stopped, Next, rest, read, Handed}
 use Rattle.stream.specs.Rounds.{bytesRead, bytesCome, Run, begins, round}
 use Rattle.stream.specs.declared.input.Source.{Source}
 use Rattle.stream.specs.declared.line.Stage.{Stage}

@@ -5,7 +5,6 @@ use mathlib.Core.Bool.{true, false}
 use mathlib.Core.List.{List, [], _∷_}
 use Prim.Native.Nat.{ℕ}
 use native.Mathlib.Omega.{arith}
-use lib.ListN.{length}
 use Rattle.stream.specs.Lines.{kept, ended, none, more, Holds, FedLine, Fed, Answers, all-ended, last-begun}
 use Rattle.stream.specs.Reading as Reading
 use Rattle.stream.specs.Reading.{started, stoppedAt, came, stopped, given-its-feed, read, Handed}

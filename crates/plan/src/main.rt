@@ -5,7 +5,9 @@ use lines::feed;
 use stream::Source;
 ghost use Prim.Native.Nat.{_≤_};
 ghost use lib.ListN.{length};
+ghost use Rattle.rules.specs.LineCall.{LineAnswer};
 ghost use Rattle.stream.specs.Reading.{Ended};
+ghost use Rattle.stream.specs.Rounds.{Kept};
 
 // One byte more than the longest line that can be well written, 3,072 digits.
 const LINE_BYTES: usize = 3073;
@@ -20,6 +22,7 @@ struct Ending {
 fn answer_all(input: &mut [u8], line: &mut [u8], out: &mut [u8]) -> Ending
     requires { ⌜ (1 ≤ length (now input)) × (3073 ≤ length (now line)) × (1907 ≤ length (now out)) ⌝ }
     ensures { λ r. ⌜ Ended (r .source) (r .len) ⌝ }
+    ensures { λ r. ⌜ Kept LineAnswer (now (line .entry)) (now (input .exit)) (r .source) (now (line .exit)) (r .len) ⌝ }
 {
     let mut source = stream::start();
     let mut len = 0;

@@ -13,8 +13,8 @@ use lib.ListN.{length, getD, take, drop, length-take, take-append-drop}
 use lib.Seq.{take-suc, take-nil, drop-drop}
 use borrow.Author.Tests.{eq-eqb, ne-eqb}
 use Rattle.stream.specs.Lines.{Lines, none, Holds, Fed, Answers, all-ended}
-use Rattle.stream.specs.Reading.{lastBegins, movedOn, Last, none-begun, given-its-feed, no-place, Read, came, ended, failed, stopped, Next, rest, read, Handed}
-use Rattle.stream.specs.Rounds.{bytesRead, bytesCome, Run, begins, round}
+use Rattle.stream.specs.Reading.{started, lastBegins, movedOn, Last, none-begun, given-its-feed, no-place, Read, came, ended, failed, stopped, Next, rest, read, Handed, Passed, written, lost}
+use Rattle.stream.specs.Rounds.{bytesRead, bytesCome, Run, begins, round, History, Finished, Kept}
 use Rattle.stream.specs.declared.input.Source.{Source}
 use Rattle.stream.specs.declared.line.Stage.{Stage}
 use Rattle.stream.proofs.Chunks.{lines-join, lines-of-none, left-none, last-line-given-its-feed}
@@ -235,3 +235,47 @@ module _ {A : List ℕ → List ℕ → Type 0} where
       of : {line : List ℕ} {len : ℕ} → Ran A x y was s line len → Next s was input r → Answers A x y
       of q (rest f g e d) = let z : s .at ≡ s .end = sym (ap (λ (v : Source). v .at) e) ∙ end ∙ ap (λ (v : Source). v .end) e in absurd (omega arith)
       of q (read f l) = answered-read q (elim (decLt (s .at) (s .end)) [ yes g ↦ absurd (f g (q .within)) | no g ↦ omega arith ]) input r place end good l
+
+-- what a program's loop shows: a run begins, goes on by each turn, and ends
+handed-flag : (s : Source) (was input : List ℕ) (h : Source) → Handed s was input h → h .unwritten ≡ s .unwritten
+handed-flag s was input h p = of (p .next)
+  where
+    last : Last s input h → h .unwritten ≡ s .unwritten
+    last (none-begun b e) = ap (λ (v : Source). v .unwritten) e
+    last (given-its-feed b g f e) = ap (λ (v : Source). v .unwritten) e
+    last (no-place b g e) = ap (λ (v : Source). v .unwritten) e
+
+    one : Read s input h → h .unwritten ≡ s .unwritten
+    one (came n g f d e) = ap (λ (v : Source). v .unwritten) e
+    one (ended left l) = last l
+    one (failed e) = ap (λ (v : Source). v .unwritten) e
+    one (stopped g e) = ap (λ (v : Source). v .unwritten) e
+
+    of : Next s was input h → h .unwritten ≡ s .unwritten
+    of (rest f g e d) = ap (λ (v : Source). v .unwritten) e
+    of (read f l) = one l
+
+module _ {A : List ℕ → List ℕ → Type 0} (line₀ : List ℕ) where
+  pub history-start : (input : List ℕ) (s : Source) → s ≡ started → s .unwritten ≡ false → History A line₀ input s line₀ 0
+  history-start input s e u = subst (λ (v : Source). History A line₀ input v line₀ 0) (sym e) (record { bytes = []; answers = []; run = begins })
+
+  module _ (was input line : List ℕ) (s h : Source) (len : ℕ) (u : s .unwritten ≡ false → History A line₀ was s line len) (p : Handed s was input h) where
+    pub history-end : Kept A line₀ input h line len
+    history-end = record { rounds = λ e. record { was = was; before = s; history = u (sym (handed-flag s was input h p) ∙ e); handed = p } }
+
+    pub history-again : (line₁ out out₁ : List ℕ) (g : Stage) (r : Source) → h .at < h .end
+        → Fed A (take (h .end - h .at) (drop (h .at) input)) line len out 0 line₁ out₁ g
+        → Passed h (g .taken) r
+        → r .unwritten ≡ false
+        → History A line₀ input r line₁ (g .len)
+    history-again line₁ out out₁ g r some f (written e) good =
+        let v = u (sym (handed-flag s was input h p) ∙ sym (ap (λ (v : Source). v .unwritten) e) ∙ good) in
+        record { bytes = v .bytes ++ bytesCome (p .next); answers = v .answers ++ take (g .used) out₁; run = round (v .run) p some f e }
+    history-again line₁ out out₁ g r some f (lost e) good = no-false (sym (ap (λ (v : Source). v .unwritten) e) ∙ good)
+
+-- so the answers of such a loop are those to the bytes that came
+pub finished-answers : {A : List ℕ → List ℕ → Type 0} (line₀ input : List ℕ) (r : Source) (line : List ℕ) (len : ℕ) (f : Finished A line₀ input r line len) → 0 < length input
+    → r .at ≡ r .end
+    → r .unread ≡ false
+    → Answers A (f .history .bytes) (f .history .answers)
+finished-answers line₀ input r line len f place end good = run-answers input r (f .history .run) (f .handed) place end good

@@ -4,6 +4,7 @@
 -- those that were handed to the system to be written.
 -- Assumes nothing.
 use mathlib.Core.Path.{_≡_}
+use mathlib.Core.Bool.{false}
 use Prim.Native.Nat.{ℕ, _-_, _<_}
 use mathlib.Core.List.{List, [], _++_}
 use lib.ListN.{take, drop}
@@ -31,3 +32,20 @@ pub data Run (A : List ℕ → List ℕ → Type 0) (line₀ : List ℕ) : List 
       → Fed A (take (h .end - h .at) (drop (h .at) input)) line len out 0 line₁ out₁ g
       → r ≡ movedOn h (g .taken)
       → Run A line₀ (x ++ bytesCome (p .next)) (y ++ take (g .used) out₁) input r line₁ (g .len)
+
+-- there was a run up to here
+pub record History (A : List ℕ → List ℕ → Type 0) (line₀ input : List ℕ) (s : Source) (line : List ℕ) (len : ℕ) : Type 0 where
+  pub bytes : List ℕ
+  pub answers : List ℕ
+  pub run : Run A line₀ bytes answers input s line len
+
+-- and it has ended: asked once more, `more` handed out r
+pub record Finished (A : List ℕ → List ℕ → Type 0) (line₀ input : List ℕ) (r : Source) (line : List ℕ) (len : ℕ) : Type 0 where
+  pub was : List ℕ
+  pub before : Source
+  pub history : History A line₀ was before line len
+  pub handed : Handed before was input r
+
+-- how a program's loop ended that kept the rounds of a run, unless writing failed
+pub record Kept (A : List ℕ → List ℕ → Type 0) (line₀ input : List ℕ) (r : Source) (line : List ℕ) (len : ℕ) : Type 0 where
+  pub rounds : r .unwritten ≡ false → Finished A line₀ input r line len

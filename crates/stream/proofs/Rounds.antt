@@ -13,8 +13,8 @@ use lib.ListN.{length, getD, take, drop, length-take, take-append-drop}
 use lib.Seq.{take-suc, take-nil, drop-drop}
 use borrow.Author.Tests.{eq-eqb, ne-eqb}
 use Rattle.stream.specs.Lines.{Lines, none, Holds, Fed, Answers, all-ended}
-use Rattle.stream.specs.Reading.{started, lastBegins, movedOn, Last, none-begun, given-its-feed, no-place, Read, came, ended, failed, stopped, Next, rest, read, Handed, Passed, written, lost}
-use Rattle.stream.specs.Rounds.{bytesRead, bytesCome, Run, begins, round, History, Finished, Kept}
+use Rattle.stream.specs.Reading.{started, lastBegins, movedOn, Last, none-begun, given-its-feed, no-place, Read, came, ended, failed, stopped, Next, rest, read, Handed, Passed, written, lost, Ended}
+use Rattle.stream.specs.Rounds.{bytesRead, bytesCome, Run, begins, round, History, Kept}
 use Rattle.stream.specs.declared.input.Source.{Source}
 use Rattle.stream.specs.declared.line.Stage.{Stage}
 use Rattle.stream.proofs.Chunks.{lines-join, lines-of-none, left-none, last-line-given-its-feed}
@@ -273,9 +273,7 @@ module _ {A : List ℕ → List ℕ → Type 0} (line₀ : List ℕ) where
         record { bytes = v .bytes ++ bytesCome (p .next); answers = v .answers ++ take (g .used) out₁; run = round (v .run) p some f e }
     history-again line₁ out out₁ g r some f (lost e) good = no-false (sym (ap (λ (v : Source). v .unwritten) e) ∙ good)
 
--- so the answers of such a loop are those to the bytes that came
-pub finished-answers : {A : List ℕ → List ℕ → Type 0} (line₀ input : List ℕ) (r : Source) (line : List ℕ) (len : ℕ) (f : Finished A line₀ input r line len) → 0 < length input
-    → r .at ≡ r .end
-    → r .unread ≡ false
-    → Answers A (f .history .bytes) (f .history .answers)
-finished-answers line₀ input r line len f place end good = run-answers input r (f .history .run) (f .handed) place end good
+-- so where neither reading nor writing failed, what such a loop handed on to be written is the answer to the bytes that came
+pub loop-answers : {A : List ℕ → List ℕ → Type 0} (line₀ input : List ℕ) (r : Source) (line : List ℕ) (len : ℕ) → Ended r len → (k : Kept A line₀ input r line len) → 0 < length input → r .unread ≡ false → (u : r .unwritten ≡ false)
+    → Answers A (k .rounds u .history .bytes) (k .rounds u .history .answers)
+loop-answers line₀ input r line len e k place good u = run-answers input r (k .rounds u .history .run) (k .rounds u .handed) place (e .nothing-left) good

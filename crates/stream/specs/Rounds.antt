@@ -46,6 +46,7 @@ pub record Finished (A : List ℕ → List ℕ → Type 0) (line₀ input : List
   pub history : History A line₀ was before line len
   pub handed : Handed before was input r
 
--- how a program's loop ended that kept the rounds of a run, unless writing failed
+-- how a program's loop ended that kept the rounds of a run, unless writing failed. Which bytes came and where the answers went is the
+-- system's, and no promise says it.
 pub record Kept (A : List ℕ → List ℕ → Type 0) (line₀ input : List ℕ) (r : Source) (line : List ℕ) (len : ℕ) : Type 0 where
   pub rounds : r .unwritten ≡ false → Finished A line₀ input r line len

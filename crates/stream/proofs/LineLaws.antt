@@ -12,17 +12,11 @@ use lib.Seq.{take-suc-set, take-all, take-append-le, drop-append-le, drop-drop, 
 use Rattle.stream.specs.Taking.{keptCount, taking}
 use Rattle.stream.specs.Lines.{kept, ended, Lines, none, more, Holds, Written, Answered, FedLine, Took}
 use Rattle.stream.specs.declared.line.Taken.{Taken}
+use Rattle.stream.proofs.Chunks.{lines-join}
 use Rattle.stream.proofs.TakeLaws.{kept-room, kept-full, taking-feed, taking-byte, taking-none}
 
--- a text after a text
-lines-after : {A : List ℕ → List ℕ → Type 0} {l u v j t o k : List ℕ} → Lines A l u v j → Lines A j t o k → Lines A l (u ++ t) (v ++ o) k
-lines-after {A} {l} {u} {v} {j} p none = subst (λ (x : List ℕ). Lines A l x (v ++ []) j) (sym (append-nil u)) (subst (λ (x : List ℕ). Lines A l u x j) (sym (append-nil v)) p)
-lines-after {A} {l} {u} {v} {j} p (more {t} {o} {k} {a} {k′} b q s) =
-    subst (λ (x : List ℕ). Lines A l x (v ++ (o ++ a)) k′) (append-assoc u t (b ∷ []))
-    (subst (λ (x : List ℕ). Lines A l ((u ++ t) ++ (b ∷ [])) x k′) (append-assoc v o a) (more b (lines-after p q) s))
-
 -- one byte more of a line
-holds-none : (buffer : List ℕ) → Holds buffer 0 []
+pub holds-none : (buffer : List ℕ) → Holds buffer 0 []
 holds-none buffer = record { count = omega arith; bytes = sym (take-nil (length buffer)) }
 
 holds-byte : (buffer : List ℕ) (len b : ℕ) (l : List ℕ) → Holds buffer len l → Holds (set buffer len b) (keptCount buffer len) (l ++ (b ∷ []))
@@ -103,7 +97,7 @@ taken-line {A} (b ∷ t) at line len k h =
         record {
           bytes = b ∷ q .bytes;
           begun = q .begun;
-          lines = lines-after (more b none (kept ne)) (q .lines);
+          lines = lines-join (more b none (kept ne)) (q .lines);
           holds = q .holds;
           text = ap (λ (n : ℕ). take n (b ∷ t)) (next (f .some)) ∙ ap (λ (x : List ℕ). b ∷ x) (q .text);
         }
@@ -232,7 +226,7 @@ fed-more {A} l chunk out buffer₁ out₁ buffer₂ out₂ used i j len₁ used�
     record {
       answers = f .answers ++ s .answers;
       begun = s .begun;
-      lines = subst (λ (x : List ℕ). Lines A l x (f .answers ++ s .answers) (s .begun)) (sym (take-add i (j - i) chunk) ∙ ap (λ (n : ℕ). take n chunk) (whole h)) (lines-after (f .lines) (s .lines));
+      lines = subst (λ (x : List ℕ). Lines A l x (f .answers ++ s .answers) (s .begun)) (sym (take-add i (j - i) chunk) ∙ ap (λ (n : ℕ). take n chunk) (whole h)) (lines-join (f .lines) (s .lines));
       holds = s .holds;
       written = written-after (f .written) (s .written);
     }

@@ -2,7 +2,7 @@
 -- by A which answers a line may get: A l a where a is one for the line l.
 -- Assumes nothing.
 use mathlib.Core.Path.{_≡_}
-use Prim.Native.Nat.{ℕ, _+_, _-_, _≤_, min}
+use Prim.Native.Nat.{ℕ, _+_, _-_, _≤_, _<_, min}
 use mathlib.Core.List.{List, [], _∷_, _++_}
 use lib.ListN.{length, take, drop}
 use Rattle.stream.specs.declared.line.Stage.{Stage}
@@ -16,6 +16,12 @@ pub data Step (A : List ℕ → List ℕ → Type 0) (b : ℕ) (k : List ℕ) : 
 pub data Lines (A : List ℕ → List ℕ → Type 0) (l : List ℕ) : List ℕ → List ℕ → List ℕ → Type 0 where
   none : Lines A l [] [] l
   more : {t o k a k′ : List ℕ} (b : ℕ) → Lines A l t o k → Step A b k a k′ → Lines A l (t ++ (b ∷ [])) (o ++ a) k′
+
+-- Answers A text output: the whole of what is written for a text. "A last line without one still counts if it has a byte": the line that is
+-- begun at its end is answered like the others, by its answer line and a line feed. One without a byte is none.
+pub data Answers (A : List ℕ → List ℕ → Type 0) (text : List ℕ) : List ℕ → Type 0 where
+  all-ended : {o : List ℕ} → Lines A [] text o [] → Answers A text o
+  last-begun : {o k : List ℕ} (a : List ℕ) → Lines A [] text o k → 0 < length k → A k a → Answers A text (o ++ (a ++ (10 ∷ [])))
 
 -- the first len bytes of a buffer are those that are kept of the line l: all, or so many as the buffer has room for
 pub record Holds (buffer : List ℕ) (len : ℕ) (l : List ℕ) : Type 0 where

@@ -3,7 +3,8 @@ use crate::input::Source;
 use crate::input::part;
 use libc::STDERR_FILENO;
 use libc::STDOUT_FILENO;
-ghost use Prim.Native.Nat.{_-_, _≤_};
+ghost use mathlib.Core.Path.{_≡_};
+ghost use Prim.Native.Nat.{_+_, min};
 ghost use Rattle.stream.specs.Reading.{Passed};
 
 // The first `used` bytes of the output, in one write where the system takes them at once.
@@ -14,7 +15,7 @@ fn write_out(out: &[u8], used: usize) -> bool {
 
 // The place after so many bytes more, and not past the end.
 fn past(at: usize, end: usize, taken: usize) -> usize
-    ensures { λ r. ⌜ end - r ≤ end - at - taken ⌝ }
+    ensures { λ r. ⌜ r ≡ min (at + taken) end ⌝ }
 {
     if at < end {
         if taken < end - at {

@@ -6,13 +6,15 @@ list elements, record values and cases exchanged; a branch taken always; a carri
 case of the answer or a truth value exchanged for its neighbour; a premise dropped. Comments, quotes, patterns and signatures stay.
 
 A change is refused if the changed specs are still well formed and some value or proof of the crate fails. It is no program if antt cannot
-read or type the specs themselves, or if a proof fails only for a name or a number of arguments that is no longer there.
+read or type the specs themselves, or if a proof fails only for a name or a number of arguments that is no longer there. It has no end if the
+check of that change alone takes longer than ALONE seconds of a processor.
 """
 
 import argparse
 import concurrent.futures
 import os
 import re
+import resource
 import shutil
 import subprocess
 import sys
@@ -34,7 +36,9 @@ HOMES = {"Prim.Native.Nat": ["_≤_", "_<_"], "lib.Dec": ["leb", "ltb"], "mathli
 FOLLOWS = re.compile("was not admitted")
 FORM = re.compile("is not a field of|has no field|explicit argument|not in scope|unknown|no such|is given [0-9]+ argument")
 COPIES = 12
-LONGEST = 600
+# seconds of a processor: for a run, and for a change that is tried alone
+LONGEST = 240
+ALONE = 30
 
 
 class Token:
@@ -354,10 +358,9 @@ class Bench:
         words = ["rt", "check", folder + "/top", "--incremental", folder + "/saved"]
         for copy in copies:
             words += ["--lib", f"rules{copy}:={folder}/rules{copy}/src/lib.rt"]
-        try:
-            done = subprocess.run(words, stdout=subprocess.PIPE, stderr=subprocess.STDOUT, cwd=self.room, timeout=LONGEST, env=dict(os.environ, RT_CUT="400"))
-        except subprocess.TimeoutExpired:
-            return 3, f"rattle was stopped after {LONGEST} s"
+        seconds = LONGEST if len(copies) > 1 else ALONE
+        limit = lambda: resource.setrlimit(resource.RLIMIT_CPU, (seconds, seconds))
+        done = subprocess.run(words, stdout=subprocess.PIPE, stderr=subprocess.STDOUT, cwd=self.room, preexec_fn=limit, env=dict(os.environ, RT_CUT="400"))
         return done.returncode, done.stdout.decode("utf-8", "replace")
 
     def own(self):
@@ -385,7 +388,7 @@ def verdict(status, said, copy):
     """What a run says of one copy: what became of its change, and the lines that say so."""
     own = re.findall(rf"^\S*/rules{copy}/\S+: error: .*(?:\n  .*)*", said, flags=re.M)
     if status not in (0, 1):
-        return "untold", said[-400:]
+        return "no end", said[-400:]
     if not own:
         proved = re.search(rf"^fn rules{copy}::number: proved", said, flags=re.M)
         return ("left", "") if proved else ("refused", f"fn number: not proved")
@@ -441,12 +444,12 @@ def main():
         shutil.rmtree(room, ignore_errors=True)
     count = lambda word: counts.get(word, 0)
     print(f"{len(changes)} changes: {count('no program')} no program, {count('refused')} refused, {count('same')} mean the same, "
-          f"{count('untold')} antt could not tell, {count('left')} left ({int(time.time() - begun)} s)")
-    sys.exit(1 if count("left") or count("untold") else 0)
+          f"{count('no end')} without an end, {count('left')} left ({int(time.time() - begun)} s)")
+    sys.exit(1 if count("left") else 0)
 
 
 def show(change, what, why, fully):
-    if what in ("left", "untold") or fully:
+    if what in ("left", "no end") or fully:
         print(f"{change.place}: {what}\n  - {change.old}\n  + {change.key}", flush=True)
     if fully and why:
         print("  ! " + re.sub(r"\S*/rules[0-9]+/", "", why)[:600], flush=True)

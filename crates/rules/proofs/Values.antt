@@ -6,3 +6,9 @@ mod Tests
 mod Frames
 mod Walks
 mod Finishes
+mod Layouts
+mod Allocations
+mod Obeyed
+mod Loops
+mod Lines
+mod Calls

@@ -1,12 +1,13 @@
 """Small changes of the rules' definitions, each tried on a copy of the crate: called by scripts/pin.
 
 Changed are, one at a time: a numeral up or down by one; a comparison made strict or loose, or its sides exchanged; a statement made to
-say nothing (both sides the same); one side of an operator dropped, or the sides exchanged; `&&` and `||` exchanged; neighbouring arguments,
+say nothing (both sides the same); a record's field dropped; one side of an operator dropped, or the sides exchanged; `&&` and `||` exchanged; neighbouring arguments,
 list elements, record values and cases exchanged; a branch taken always; a carried value, a mark, `suc` or `not` dropped; a field read, a
 case of the answer or a truth value exchanged for its neighbour; a premise dropped. Comments, quotes, patterns and signatures stay.
 
 A change is refused if the changed specs are still well formed and some value or proof of the crate fails. It is no program if antt cannot
-read or type the specs themselves, or if a proof fails only for a name or a number of arguments that is no longer there. It has no end if the
+read or type the specs themselves, or if a proof fails only for a name or a number of arguments that is no longer there, where a proof that
+takes a dropped field's fact from a record is refused for want of that fact. It has no end if the
 check of that change alone takes longer than ALONE seconds of a processor.
 """
 
@@ -34,11 +35,11 @@ DROPPED = {"put": 2, "drop": 1, "suc": 0, "not": 0, "insert": 1}
 HOMES = {"Prim.Native.Nat": ["_≤_", "_<_"], "lib.Dec": ["leb", "ltb"], "mathlib.Core.Bool": ["true", "false", "_&&_", "_||_"],
          "Rattle.rules.specs.declared.Answer.the-variants": ANSWERS[0] + ANSWERS[1]}
 FOLLOWS = re.compile("was not admitted")
-FORM = re.compile("is not a field of|has no field|explicit argument|not in scope|unknown|no such|is given [0-9]+ argument")
+FORM = re.compile("is not a field of|explicit argument|not in scope|unknown|no such|is given [0-9]+ argument")
 COPIES = 12
 # seconds of a processor: for a run, and for a change that is tried alone
-LONGEST = 240
-ALONE = 30
+LONGEST = 120
+ALONE = 15
 
 
 class Token:
@@ -60,7 +61,8 @@ def tokens_of(source):
 
 
 def bodies_of(source):
-    """The bodies in a file: what stands right of `=` in a clause, and the type of a record's field or of a constructor."""
+    """The bodies in a file: what stands right of `=` in a clause, and the type of a record's field or of a constructor; with each the whole
+    field where it is one."""
     lines, at = tokens_of(source), 0
     while at < len(lines):
         first = lines[at]
@@ -73,7 +75,7 @@ def bodies_of(source):
         if header or words[0] in ("use", "mod", "abbrev", "unfoldable") or words[:2] == ["pub", "mod"]:
             continue
         mark = ":" if words[0] == "pub" or words[1:2] == [":"] else "="
-        yield body[next(i for i, t in enumerate(body) if t.text == mark) + 1:]
+        yield body[next(i for i, t in enumerate(body) if t.text == mark) + 1:], body if words[0] == "pub" else None
 
 
 class Node:
@@ -180,7 +182,9 @@ class Changes:
 
     def __init__(self, source, fields):
         self.source, self.fields, self.found = source, fields, []
-        for body in bodies_of(source):
+        for body, field in bodies_of(source):
+            if field:
+                self.found.append((field[0], [(field[0].start, field[-1].end, "")]))
             parser = Parser(body)
             tree = parser.infix()
             if parser.peek():
@@ -297,7 +301,7 @@ class Change:
         self.new = squeezed(self.text[self.text.rfind("\n", 0, low) + 1:(self.text + "\n").index("\n", late)])
         self.text = with_imports(self.text)
         self.place = f"specs/{name}.antt:{token.line}:{token.column}"
-        self.key = f"{name}: {self.new}"
+        self.key = f"{name}: {self.new or 'without ' + self.old}"
 
 
 def with_imports(text):

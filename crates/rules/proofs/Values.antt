@@ -12,3 +12,4 @@ mod Obeyed
 mod Loops
 mod Lines
 mod Calls
+mod Examples

@@ -75,10 +75,13 @@ one-over : Exceeds 2 1 (limitOf 10) (at (5 ∷ 6 ∷ [])) (at (1 ∷ 1 ∷ [])) 
 unfolding Exceeds groupBudget groupCapacity capacity union sumTo has
 one-over = lit< tt
 
--- one task of 11 units, and one of 10
+-- one task of 11 units, tasks of 5 and 6, and one of 10
 overload-value : Overload 1 1 (limitOf 10) (at (11 ∷ [])) (at (1 ∷ []))
 unfolding Exceeds groupBudget groupCapacity capacity union sumTo has
 overload-value = (0b1, lit< tt, lit< tt)
+
+both-tasks : Overload 2 1 (limitOf 10) (at (5 ∷ 6 ∷ [])) (at (1 ∷ 1 ∷ []))
+both-tasks = (0b11, lit< tt, one-over)
 
 fits : T (fitTest 1 1 (limitOf 10) (at (10 ∷ [])) (at (1 ∷ [])))
 unfolding fitTest groupBudget groupCapacity capacity union sumTo has

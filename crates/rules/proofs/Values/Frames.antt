@@ -187,7 +187,7 @@ check-values = refl
 
 -- the moves beside an acceptance; beside each refusal 0, although the pieces have three
 moves-values :
-    movesAnswer 10 3 table ∷ movesAnswer 0 3 table ∷ movesAnswer 10 0 table ∷ movesAnswer 9 3 table ∷ [] ≡
+    movesAnswer 10 3 table ∷ movesAnswer 1000001 3 table ∷ movesAnswer 10 17 table ∷ movesAnswer 9 3 table ∷ [] ≡
     record { answer = Accepted; moves = 3 } ∷
     record { answer = FrameLength; moves = 0 } ∷
     record { answer = CoreCount; moves = 0 } ∷

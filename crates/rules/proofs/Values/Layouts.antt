@@ -33,6 +33,35 @@ begun-value : seen begun 0 ∷ seen begun 7 ∷ [] ≡ (0 ∷ 0 ∷ 0 ∷ 0 ∷ 
 unfolding begun
 begun-value = refl
 
+-- a walk that tells its five parts apart
+abbrev parts : Walk
+parts = record { visited = λ j. 11; reached = λ j. 12; met = λ t. 13; start = λ j. 14; first = λ j. 15 }
+
+-- task 1 has 4, 5 and 6 units on the cores 0, 1 and 2; met on core 1 at 20, it runs there until 25, on core 0 until 29, on core 2 from then on
+reach-values :
+    seen (reachOne 2 3 (cellAt 3 (0 ∷ 0 ∷ 0 ∷ 4 ∷ 5 ∷ 6 ∷ [])) 1 1 20 2 parts) 2 ∷
+    seen (reachOne 2 3 (cellAt 3 (0 ∷ 0 ∷ 0 ∷ 4 ∷ 5 ∷ 6 ∷ [])) 1 1 20 2 parts) 0 ∷
+    seen (reachOne 2 3 (cellAt 3 (0 ∷ 0 ∷ 0 ∷ 4 ∷ 5 ∷ 6 ∷ [])) 1 1 20 0 parts) 0 ∷
+    seen (reachOne 2 3 (cellAt 3 (0 ∷ 0 ∷ 0 ∷ 4 ∷ 5 ∷ 6 ∷ [])) 1 1 20 1 parts) 1 ∷
+    seen (reachOne 2 3 (cellAt 3 (0 ∷ 0 ∷ 0 ∷ 4 ∷ 5 ∷ 6 ∷ [])) 0 1 20 2 parts) 2 ∷ [] ≡
+    (11 ∷ 1 ∷ 13 ∷ 29 ∷ 2 ∷ []) ∷
+    (11 ∷ 12 ∷ 13 ∷ 14 ∷ 15 ∷ []) ∷
+    (11 ∷ 1 ∷ 13 ∷ 25 ∷ 2 ∷ []) ∷
+    (11 ∷ 12 ∷ 13 ∷ 14 ∷ 15 ∷ []) ∷
+    (11 ∷ 12 ∷ 13 ∷ 14 ∷ 15 ∷ []) ∷ []
+unfolding reachOne ahead sumTo
+reach-values = refl
+
+-- a task is met, a core is visited and so reached; the rest stays
+mark-values :
+    seen (meetMark 2 3 (λ i j. 0) 5 parts) 5 ∷ seen (meetMark 2 3 (λ i j. 0) 5 parts) 4 ∷ seen (visitMark 2 3 (λ i j. 0) 5 parts) 5 ∷ seen (visitMark 2 3 (λ i j. 0) 5 parts) 4 ∷ [] ≡
+    (11 ∷ 12 ∷ 1 ∷ 14 ∷ 15 ∷ []) ∷
+    (11 ∷ 12 ∷ 13 ∷ 14 ∷ 15 ∷ []) ∷
+    (1 ∷ 1 ∷ 13 ∷ 14 ∷ 15 ∷ []) ∷
+    (11 ∷ 12 ∷ 13 ∷ 14 ∷ 15 ∷ []) ∷ []
+unfolding meetMark visitMark
+mark-values = refl
+
 -- F 10, six tasks, five cores. Task 0 joins the cores 0 and 2, task 1 the cores 1, 2 and 3; core 4 is a group of its own.
 group-cells : List ℕ
 group-cells =
@@ -78,8 +107,9 @@ next-values :
     waiting 6 5 (cellAt 5 group-cells) (visits 6 5 (cellAt 5 group-cells) 2) 3 ∷
     waiting 6 5 (cellAt 5 group-cells) (visits 6 5 (cellAt 5 group-cells) 2) 4 ∷
     unvisited 6 5 (cellAt 5 group-cells) (visits 6 5 (cellAt 5 group-cells) 2) 2 ∷
+    unvisited 6 5 (cellAt 5 group-cells) (visits 6 5 (cellAt 5 group-cells) 2) 3 ∷
     unvisited 6 5 (cellAt 5 group-cells) (visits 6 5 (cellAt 5 group-cells) 2) 4 ∷
-    nextCore 6 5 (cellAt 5 group-cells) (visits 6 5 (cellAt 5 group-cells) 4) ∷ [] ≡ 1 ∷ 0 ∷ 1 ∷ 0 ∷ 0 ∷ 1 ∷ 4 ∷ []
+    nextCore 6 5 (cellAt 5 group-cells) (visits 6 5 (cellAt 5 group-cells) 4) ∷ [] ≡ 1 ∷ 0 ∷ 1 ∷ 0 ∷ 0 ∷ 1 ∷ 1 ∷ 4 ∷ []
 unfolding group-cells sumTo lowest ahead begun stretch reachOne reach meetMark meetOne meet visitMark visit waiting unvisited nextCore visits
 next-values = refl
 

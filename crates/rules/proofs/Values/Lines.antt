@@ -95,15 +95,15 @@ bad-byte = refl
 
 -- "the number (1 byte); for 0 the piece count (2) and per piece core (1), task (1), start (4), length (4)"
 accepted-lines :
-    answerLine Accepted [] ∷ answerLine Accepted (piece 15 63 999999 1 ∷ piece 1 2 0x12345678 0x9abcdef0 ∷ []) ∷ [] ≡
-    digits 6 0x000000 ∷ digits 46 0x0000020f3f000f423f000000010102123456789abcdef0 ∷ []
+    answerLine Accepted [] ∷ answerLine Accepted (piece 15 63 300 1 ∷ piece 1 2 0x304 0x506 ∷ []) ∷ [] ≡
+    digits 6 0x000000 ∷ digits 46 0x0000020f3f0000012c0000000101020000030400000506 ∷ []
 unfolding answerLine answerRest pieceLine pieceLines digits digitOf
 accepted-lines = refl
 
 -- "for 4 and 5 the task (1); for 7 the group (8, bit i for task i) and its cores (2)"; a refusal shows no pieces
 carried-lines :
-    answerLine (Mask 0x3f) (piece 1 2 3 4 ∷ []) ∷ answerLine (Budget 0x05) (piece 1 2 3 4 ∷ []) ∷ answerLine (Overloaded 0x8000000000000001 0xa003) (piece 1 2 3 4 ∷ []) ∷ [] ≡
-    digits 4 0x043f ∷ digits 4 0x0505 ∷ digits 22 0x078000000000000001a003 ∷ []
+    answerLine (Mask 0x3f) (piece 1 2 3 4 ∷ []) ∷ answerLine (Budget 0x05) (piece 1 2 3 4 ∷ []) ∷ answerLine (Overloaded 0x102 0x304) (piece 1 2 3 4 ∷ []) ∷ [] ≡
+    digits 4 0x043f ∷ digits 4 0x0505 ∷ digits 22 0x0700000000000001020304 ∷ []
 unfolding answerLine answerRest pieceLine pieceLines digits digitOf
 carried-lines = refl
 

@@ -70,9 +70,10 @@ early-values = refl
 -- a release and units at their limits and one above, and a release below the one before it
 job-edges :
     badJob (1000000000000 ∷ []) (1000000 ∷ []) 0 ∷
-    badJob (1000000000001 ∷ []) (1000000 ∷ []) 0 ∷
-    badJob (1000000000000 ∷ []) (1000001 ∷ []) 0 ∷
-    badJob (5 ∷ 4 ∷ []) (1 ∷ 1 ∷ []) 1 ∷ [] ≡ 0 ∷ 1 ∷ 1 ∷ 1 ∷ []
+    badJob (5 ∷ 1000000000000 ∷ []) (1 ∷ 1000000 ∷ []) 1 ∷
+    badJob (5 ∷ 1000000000001 ∷ []) (1 ∷ 1000000 ∷ []) 1 ∷
+    badJob (5 ∷ 1000000000000 ∷ []) (1 ∷ 1000001 ∷ []) 1 ∷
+    badJob (5 ∷ 4 ∷ []) (1 ∷ 1 ∷ []) 1 ∷ [] ≡ 0 ∷ 0 ∷ 1 ∷ 1 ∷ 1 ∷ []
 unfolding badJob early
 job-edges = refl
 

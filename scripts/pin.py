@@ -1,14 +1,15 @@
 """Small changes of the rules' definitions, each tried on a copy of the crate: called by scripts/pin.
 
 Changed are, one at a time: a numeral up or down by one; a comparison made strict or loose, or its sides exchanged; a statement made to
-say nothing (both sides the same); a record's field dropped; one side of an operator dropped, or the sides exchanged; `&&` and `||` exchanged; neighbouring arguments,
-list elements, record values and cases exchanged; a branch taken always; a carried value, a mark, `suc` or `not` dropped; a field read, a
-case of the answer or a truth value exchanged for its neighbour; a premise dropped. Comments, quotes, patterns and signatures stay.
+say nothing (both sides the same); a record's field or a premise dropped; one side of an operator dropped, or the sides exchanged; `&&` and
+`||` exchanged; neighbouring arguments, list elements, record values and cases exchanged; a branch taken always; a carried value, a mark,
+`suc` or `not` dropped; a field that is read, a case of the answer or a truth value exchanged for its neighbour. Comments, patterns and
+signatures stay.
 
-A change is refused if the changed specs are still well formed and some value or proof of the crate fails. It is no program if antt cannot
-read or type the specs themselves, or if a proof fails only for a name or a number of arguments that is no longer there, where a proof that
-takes a dropped field's fact from a record is refused for want of that fact. It has no end if the
-check of that change alone takes longer than ALONE seconds of a processor.
+A change is no program if antt cannot read or type the specs themselves, or if proofs fail only for a name or a number of arguments that is
+no longer there. It is refused if the changed specs are well formed and some value or proof of the crate fails; a proof that takes a dropped
+field from a record fails for want of its fact. It is without an end if its check alone takes more than ALONE seconds of a processor. Else
+it is left, and shown; the changes that are known to mean the same stand with their reasons in scripts/pin.same.
 """
 
 import argparse
@@ -17,6 +18,7 @@ import os
 import re
 import resource
 import shutil
+import signal
 import subprocess
 import sys
 import tempfile
@@ -35,7 +37,7 @@ DROPPED = {"put": 2, "drop": 1, "suc": 0, "not": 0, "insert": 1}
 HOMES = {"Prim.Native.Nat": ["_≤_", "_<_"], "lib.Dec": ["leb", "ltb"], "mathlib.Core.Bool": ["true", "false", "_&&_", "_||_"],
          "Rattle.rules.specs.declared.Answer.the-variants": ANSWERS[0] + ANSWERS[1]}
 FOLLOWS = re.compile("was not admitted")
-FORM = re.compile("is not a field of|explicit argument|not in scope|unknown|no such|is given [0-9]+ argument")
+FORM = re.compile("is not a field of|explicit argument|is given [0-9]+ argument|binders, but its type|components but its type|not in scope|unknown")
 COPIES = 12
 # seconds of a processor: for a run, and for a change that is tried alone
 LONGEST = 120
@@ -198,7 +200,7 @@ class Changes:
         self.found.append((node.first, [(node.first.start, node.last.end, text)]))
 
     def exchange(self, a, b):
-        if self.text(a) != self.text(b):
+        if unnamed(self.text(a)) != unnamed(self.text(b)):
             self.found.append((a.first, [(a.first.start, a.last.end, self.text(b)), (b.first.start, b.last.end, self.text(a))]))
 
     def walk(self, node):
@@ -271,6 +273,11 @@ class Changes:
     def on_record(self, node):
         for a, b in zip(node.parts, node.parts[1:]):
             self.exchange(a, b)
+
+
+def unnamed(text):
+    """A text without the names of its functions' arguments: `λ j. 0` and `λ t. 0` are the same."""
+    return re.sub(r"λ \w+\.", "λ.", text)
 
 
 def written_as(word, value):
@@ -428,27 +435,33 @@ def wanted(given):
     return changes
 
 
-def main():
-    given = asked()
-    changes, same, counts, begun, done = wanted(given), known_same(), {}, time.time(), 0
-    batches = [changes[at:at + COPIES] for at in range(0, len(changes), COPIES)]
+def outcomes(changes, count):
+    """Each change with what became of it and why, in their order; the copies are gone at the end, however it comes."""
     room = tempfile.mkdtemp(prefix="pin.")
+    pool = concurrent.futures.ThreadPoolExecutor(count)
     try:
         bench = Bench(room, min(COPIES, len(changes)))
-        with concurrent.futures.ThreadPoolExecutor(given.n) as pool:
-            for batch, found in zip(batches, pool.map(bench.tried, batches)):
-                for change, (what, why) in zip(batch, found):
-                    what = "same" if what == "left" and change.key in same else what
-                    counts[what] = counts.get(what, 0) + 1
-                    show(change, what, why, given.v)
-                done += len(batch)
-                if done // 120 > (done - len(batch)) // 120:
-                    print(f"pin: {done} of {len(changes)} changes, {int(time.time() - begun)} s", file=sys.stderr, flush=True)
+        batches = [changes[at:at + COPIES] for at in range(0, len(changes), COPIES)]
+        for batch, found in zip(batches, pool.map(bench.tried, batches)):
+            yield from ((change, what, why) for change, (what, why) in zip(batch, found))
     finally:
+        pool.shutdown(cancel_futures=True)
         shutil.rmtree(room, ignore_errors=True)
+
+
+def main():
+    signal.signal(signal.SIGTERM, lambda *_: sys.exit(143))
+    given = asked()
+    changes, same, counts, begun = wanted(given), known_same(), {}, time.time()
+    for done, (change, what, why) in enumerate(outcomes(changes, given.n), 1):
+        what = "same" if what == "left" and change.key in same else what
+        counts[what] = counts.get(what, 0) + 1
+        show(change, what, why, given.v)
+        if done % 240 == 0:
+            print(f"pin: {done} of {len(changes)} changes, {int(time.time() - begun)} s", file=sys.stderr, flush=True)
     count = lambda word: counts.get(word, 0)
-    print(f"{len(changes)} changes: {count('no program')} no program, {count('refused')} refused, {count('same')} mean the same, "
-          f"{count('no end')} without an end, {count('left')} left ({int(time.time() - begun)} s)")
+    print(f"{len(changes)} changes: {count('no program')} no program, {count('refused')} refused, {count('no end')} without an end, "
+          f"{count('same')} mean the same ({SAME}), {count('left')} left ({int(time.time() - begun)} s)")
     sys.exit(1 if count("left") else 0)
 
 

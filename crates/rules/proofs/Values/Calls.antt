@@ -18,11 +18,11 @@ lent-value = refl
 
 -- the empty line gets `0c`
 bad-line : LineAnswer [] (48 ∷ 99 ∷ [])
-unfolding wellWritten allDigits digitsAt answerLine answerRest digits digitOf
+unfolding wellWritten allDigits isDigit isDecimal isLetter digitsAt digitValue answerLine answerRest digits digitOf
 bad-line = refl
 
 only-bad-line : (line : List ℕ) → LineAnswer [] line → line ≡ 48 ∷ 99 ∷ []
-unfolding wellWritten allDigits digitsAt answerLine answerRest digits digitOf
+unfolding wellWritten allDigits isDigit isDecimal isLetter digitsAt digitValue answerLine answerRest digits digitOf
 only-bad-line line h = h
 
 -- an output of 1,905 bytes, with a line that is not well written either: "tested before 12: it hands back 0 and writes nothing"

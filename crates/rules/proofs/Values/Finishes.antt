@@ -16,7 +16,7 @@ use Rattle.rules.specs.Jobs.{badJobCount, early, badJob, firstBadJob, fi
 use Rattle.rules.specs.Answer.{numberOf}
 use Rattle.rules.specs.Walked.{WalkAnswer, WalkDone, walkTested}
 use Rattle.rules.specs.declared.Answer.{Answer}
-use Rattle.rules.specs.declared.Answer.the-variants.{Accepted, FrameLength, NotTable}
+use Rattle.rules.specs.declared.Answer.the-variants.{Accepted, FrameLength, NotTable, JobList}
 
 -- F 6: task 3 on core 0 from 2 up to 5
 abbrev pieces : List Piece
@@ -62,6 +62,12 @@ refused-keeps r after h = (h .answer, h .kept)
 refused-so : WalkAnswer 0 1 [] 3 (1 ∷ []) (0 ∷ []) (7 ∷ []) FrameLength (7 ∷ [])
 unfolding walkTested badFrame
 refused-so = record { answer = refl; kept = refl }
+
+-- the second release is below the first, the units are not
+refused-early : (r : Answer) (after : List ℕ) → WalkAnswer 6 1 (0 ∷ 3 ∷ 2 ∷ 3 ∷ []) 3 (5 ∷ 4 ∷ []) (0 ∷ 0 ∷ []) (7 ∷ 8 ∷ []) r after
+    → (r ≡ JobList 1) × (after ≡ 7 ∷ 8 ∷ [])
+unfolding walkTested every everyTwo sound ordered overlap coreApart taskApart framePieces frameTable firstPieces badFrame badCores badJobCount firstBadJob badJob early lowest firstAsking covers covered sumTo
+refused-early r after h = (h .answer, h .kept)
 
 -- one job of 0 units, released at 1, on a lent list of three places: the first holds its finish, the others keep
 abbrev Walk : Answer → List ℕ → Type 0

@@ -2,7 +2,7 @@
 # make compare: random lines through the compiled programs and the second program; SEED=.. and COUNT=.. may be given.
 KIT := rattle-kit-5b logic 064da1ca440f63e7
 
-.PHONY: run test compare executive bench kit plan calls
+.PHONY: run test compare pin executive bench kit plan calls
 
 kit:
 	@command -v rt >/dev/null || { echo "rt is missing: install the Rattle kit ($(KIT)) and put its bin/ on PATH"; exit 1; }
@@ -32,3 +32,7 @@ test: kit
 
 compare: plan calls
 	@second/compare "$(COUNT)" "$(SEED)"
+
+# small changes of the rules' definitions, tried one by one: those that the crate `rules` does not refuse are shown
+pin: kit
+	@scripts/pin

@@ -43,7 +43,7 @@ extra-values : extraOf 4 3 (piecesOf extra-table) ∷ extraOf 2 3 (piecesOf extr
 unfolding extraOf extra coresOf sumTo runsOn extra-table firstPieces
 extra-values = refl
 
--- F 10, one core, one task of budget 4 on it: what plan answered, and the table before and after
+-- F 10, one core, one task of budget 4 on it: how many pieces plan answered, and the table before and after
 abbrev Small : ℕ → List ℕ → List ℕ → Type 0
 Small pieces before after = SignedTable 10 1 (4 ∷ []) (0b1 ∷ []) before (record { answer = Accepted; pieces = pieces }) after
 
@@ -54,13 +54,16 @@ one-task P h (suc i) l = absurd (far l)
     far : suc (suc i) ≤ 1 → ⊥
     far l = omega arith
 
--- two pieces, which is n + 2 × m − 1, in a table that holds no third; what lies beyond keeps
-signed-value : Small 2 (9 ∷ 9 ∷ 9 ∷ 9 ∷ 9 ∷ 9 ∷ 9 ∷ 9 ∷ []) (0 ∷ 0 ∷ 0 ∷ 2 ∷ 0 ∷ 0 ∷ 8 ∷ 2 ∷ [])
-unfolding checkAnswer badFrame badCores every everyTwo sound ordered overlap coreApart taskApart framePieces frameTable firstPieces covers covered sumTo allowed has extraOf extra coresOf runsOn
+-- on two cores four pieces, which is n + 2 × m − 1, in a table that holds no fifth
+cut-up : List ℕ
+cut-up = 0 ∷ 0 ∷ 0 ∷ 1 ∷ 0 ∷ 0 ∷ 4 ∷ 1 ∷ 1 ∷ 0 ∷ 2 ∷ 1 ∷ 1 ∷ 0 ∷ 8 ∷ 1 ∷ []
+
+signed-value : SignedTable 10 2 (4 ∷ []) (0b11 ∷ []) (9 ∷ 9 ∷ 9 ∷ 9 ∷ 9 ∷ 9 ∷ 9 ∷ 9 ∷ 9 ∷ 9 ∷ 9 ∷ 9 ∷ 9 ∷ 9 ∷ 9 ∷ 9 ∷ []) (record { answer = Accepted; pieces = 4 }) cut-up
+unfolding checkAnswer badFrame badCores every everyTwo sound ordered overlap coreApart taskApart framePieces frameTable firstPieces covers covered sumTo allowed has extraOf extra coresOf runsOn cut-up
 signed-value =
     record {
       checked = refl;
-      exact = one-task (λ i. units 10 (firstPieces (0 ∷ 0 ∷ 0 ∷ 2 ∷ 0 ∷ 0 ∷ 8 ∷ 2 ∷ []) 2) i 10 ≡ at (4 ∷ []) i) refl;
+      exact = one-task (λ i. units 10 (firstPieces cut-up 4) i 10 ≡ at (4 ∷ []) i) refl;
       on-mask = refl;
       apart = refl;
       extra = lit< tt;
@@ -121,14 +124,15 @@ outside : Two (0b11 ∷ 0b10 ∷ []) (0 ∷ 0 ∷ 0 ∷ 2 ∷ 0 ∷ 1 ∷ 2 ∷ 
 unfolding every allowed has firstPieces
 outside s = true≢false (sym (s .on-mask))
 
--- each of two tasks on both cores: two extra assignments, and two cores
-crossed : SignedTable 10 2 (2 ∷ 2 ∷ []) (0b11 ∷ 0b11 ∷ [])
-    (0 ∷ 0 ∷ 0 ∷ 1 ∷ 0 ∷ 1 ∷ 1 ∷ 1 ∷ 1 ∷ 1 ∷ 0 ∷ 1 ∷ 1 ∷ 0 ∷ 1 ∷ 1 ∷ []) (record { answer = Accepted; pieces = 4 })
-    (0 ∷ 0 ∷ 0 ∷ 1 ∷ 0 ∷ 1 ∷ 1 ∷ 1 ∷ 1 ∷ 1 ∷ 0 ∷ 1 ∷ 1 ∷ 0 ∷ 1 ∷ 1 ∷ []) → ⊥
-unfolding extraOf extra coresOf sumTo runsOn firstPieces
+-- the tasks 1 and 2, each on both cores: two extra assignments, and two cores
+crossing : List ℕ
+crossing = 0 ∷ 1 ∷ 0 ∷ 1 ∷ 0 ∷ 2 ∷ 1 ∷ 1 ∷ 1 ∷ 2 ∷ 0 ∷ 1 ∷ 1 ∷ 1 ∷ 1 ∷ 1 ∷ []
+
+crossed : SignedTable 10 2 (0 ∷ 2 ∷ 2 ∷ []) (0b01 ∷ 0b11 ∷ 0b11 ∷ []) crossing (record { answer = Accepted; pieces = 4 }) crossing → ⊥
+unfolding extraOf extra coresOf sumTo runsOn firstPieces crossing
 crossed s = let e : 2 < 2 = s .extra in omega arith
 
--- P2's group and cores; and other cores than the union of its masks
+-- P2's group and cores, P6's, and P2's group with other cores than the union of its masks
 named-value : NamedGroup 10 2 (8 ∷ 8 ∷ 3 ∷ []) (0b01 ∷ 0b01 ∷ 0b10 ∷ []) 0b011 0b01
 unfolding sumTo has union groupBudget capacity groupCapacity Exceeds greatestTest smallestTest
 named-value = record { smallest = smallest-computed 3 2 _ _ _ 0b011 (lit< tt) tt tt; exceeds = lit< tt; no-zero = none; cores = refl }
@@ -141,6 +145,24 @@ named-value = record { smallest = smallest-computed 3 2 _ _ _ 0b011 (lit< tt) tt
       where
         far : suc (suc (suc (suc i))) ≤ 3 → ⊥
         far l = omega arith
+
+two-tasks : (P : ℕ → Type 0) → P 0 → P 1 → (i : ℕ) → i < 2 → P i
+two-tasks P h g zero l = h
+two-tasks P h g (suc zero) l = g
+two-tasks P h g (suc (suc i)) l = absurd (far l)
+  where
+    far : suc (suc (suc i)) ≤ 2 → ⊥
+    far l = omega arith
+
+named-one-core : NamedGroup 10 1 (5 ∷ 6 ∷ []) (0b1 ∷ 0b1 ∷ []) 0b11 0b1
+unfolding sumTo has union groupBudget capacity groupCapacity Exceeds greatestTest smallestTest
+named-one-core =
+    record {
+      smallest = smallest-computed 2 1 _ _ _ 0b11 (lit< tt) tt tt;
+      exceeds = lit< tt;
+      no-zero = two-tasks (λ i. at (5 ∷ 6 ∷ []) i ≡ 0 → has 0b11 i ≡ 0) (λ e. absurd (omega arith)) (λ e. absurd (omega arith));
+      cores = refl;
+    }
 
 other-cores : NamedGroup 10 2 (8 ∷ 8 ∷ 3 ∷ []) (0b01 ∷ 0b01 ∷ 0b10 ∷ []) 0b011 0b11 → ⊥
 unfolding union has
@@ -156,30 +178,32 @@ fitting-group : NamedGroup 10 1 (0 ∷ []) (0b1 ∷ []) 0 0 → ⊥
 unfolding sumTo has union groupBudget capacity groupCapacity Exceeds
 fitting-group n = let e : 0 < 0 = n .exceeds in omega arith
 
--- F 1, one core, one task: of budget 1 it has a table, of budget 2 it has none
-one-unit : Obeys 1 1 1 (at (1 ∷ [])) (at (0b1 ∷ [])) (piecesOf (0 ∷ 0 ∷ 0 ∷ 1 ∷ []))
+-- F 3, one core, two tasks: of the budgets 1 and 2 they have a table, of 0 and 4 they have none
+one-unit : Obeys 3 2 1 (at (1 ∷ 2 ∷ [])) (at (0b1 ∷ 0b1 ∷ [])) (piecesOf (0 ∷ 0 ∷ 0 ∷ 1 ∷ 0 ∷ 1 ∷ 1 ∷ 2 ∷ []))
 unfolding every everyTwo sound ordered overlap coreApart taskApart framePieces firstPieces covers covered sumTo allowed has
 one-unit =
     record {
       table = refl;
-      exact = one-task (λ i. units 1 (piecesOf (0 ∷ 0 ∷ 0 ∷ 1 ∷ [])) i 1 ≡ at (1 ∷ []) i) refl;
+      exact = two-tasks (λ i. units 3 (piecesOf (0 ∷ 0 ∷ 0 ∷ 1 ∷ 0 ∷ 1 ∷ 1 ∷ 2 ∷ [])) i 3 ≡ at (1 ∷ 2 ∷ []) i) refl refl;
       on-mask = refl;
     }
 
-few-units : (ps : List Piece) → covered 0 0 ps ≤ 1
+at-most-one : (t : ℕ) (ps : List Piece) → covered 1 t ps ≤ 1
 unfolding covered
-few-units [] = omega arith
-few-units (p ∷ ps) = elim (covers 0 0 p) as (λ b. elim b [ true ↦ 1 | false ↦ covered 0 0 ps ] ≤ 1) [ true ↦ lit≤ tt | false ↦ few-units ps ]
+at-most-one t [] = omega arith
+at-most-one t (p ∷ ps) = elim (covers 1 t p) as (λ b. elim b [ true ↦ 1 | false ↦ covered 1 t ps ] ≤ 1) [ true ↦ lit≤ tt | false ↦ at-most-one t ps ]
 
-no-two-units : NoTable 1 1 (2 ∷ []) (0b1 ∷ [])
+no-four-units : NoTable 3 1 (0 ∷ 4 ∷ []) (0b1 ∷ 0b1 ∷ [])
 unfolding sumTo
-no-two-units ps o = let e : 0 + covered 0 0 ps ≡ 2 = o .exact 0 (lit< tt) in omega (arith, e, few-units ps)
+no-four-units ps o =
+    let e : 0 + covered 1 0 ps + covered 1 1 ps + covered 1 2 ps ≡ 4 = o .exact 1 (lit< tt) in
+    omega (arith, e, at-most-one 0 ps, at-most-one 1 ps, at-most-one 2 ps)
 
-accepted-exactly : RefusedExactly 1 1 (1 ∷ []) (0b1 ∷ []) Accepted
+accepted-exactly : RefusedExactly 3 1 (1 ∷ 2 ∷ []) (0b1 ∷ 0b1 ∷ []) Accepted
 accepted-exactly =
     record {
       refused-has-none = λ z. absurd (not-seven z);
-      none-is-refused = λ none. absurd (none (piecesOf (0 ∷ 0 ∷ 0 ∷ 1 ∷ [])) one-unit);
+      none-is-refused = λ none. absurd (none (piecesOf (0 ∷ 0 ∷ 0 ∷ 1 ∷ 0 ∷ 1 ∷ 1 ∷ 2 ∷ [])) one-unit);
       else-accepted = λ z. refl;
       named = λ z. absurd (not-seven z);
     }
@@ -187,48 +211,45 @@ accepted-exactly =
     not-seven : _≡_ {A = ℕ} 0 7 → ⊥
     not-seven z = omega arith
 
-refused-exactly : RefusedExactly 1 1 (2 ∷ []) (0b1 ∷ []) (Overloaded 1 1)
+refused-exactly : RefusedExactly 3 1 (0 ∷ 4 ∷ []) (0b1 ∷ 0b1 ∷ []) (Overloaded 0b10 0b1)
 unfolding sumTo has union groupBudget capacity groupCapacity Exceeds greatestTest smallestTest
 refused-exactly =
     record {
-      refused-has-none = λ z. no-two-units;
+      refused-has-none = λ z. no-four-units;
       none-is-refused = λ none. refl;
       else-accepted = λ z. absurd (z refl);
       named = λ z. (
-        1,
-        1,
+        0b10,
+        0b1,
         refl,
         record {
-          smallest = smallest-computed 1 1 _ _ _ 1 (lit< tt) tt tt;
+          smallest = smallest-computed 2 1 _ _ _ 0b10 (lit< tt) tt tt;
           exceeds = lit< tt;
-          no-zero = one-task (λ i. at (2 ∷ []) i ≡ 0 → has 1 i ≡ 0) (λ e. absurd (two e));
+          no-zero = two-tasks (λ i. at (0 ∷ 4 ∷ []) i ≡ 0 → has 0b10 i ≡ 0) (λ e. refl) (λ e. absurd (omega arith));
           cores = refl;
         },
       );
     }
-  where
-    two : _≡_ {A = ℕ} 2 0 → ⊥
-    two e = omega arith
 
-fits : Exceeds 1 1 (λ j. 1) (at (2 ∷ [])) (at (0b1 ∷ [])) 0 → ⊥
+fits : Exceeds 2 1 (λ j. 3) (at (0 ∷ 4 ∷ [])) (at (0b1 ∷ 0b1 ∷ [])) 0 → ⊥
 unfolding sumTo has union groupBudget capacity groupCapacity Exceeds
 fits e = let z : 0 < 0 = e in omega arith
 
 -- a set without a table accepted, one with a table refused by 7, one with a table refused by 8, and one whose group is not the one named
-accepts-all : RefusedExactly 1 1 (2 ∷ []) (0b1 ∷ []) Accepted → ⊥
-accepts-all r = let e : _≡_ {A = ℕ} 0 7 = r .none-is-refused no-two-units in omega arith
+accepts-all : RefusedExactly 3 1 (0 ∷ 4 ∷ []) (0b1 ∷ 0b1 ∷ []) Accepted → ⊥
+accepts-all r = let e : _≡_ {A = ℕ} 0 7 = r .none-is-refused no-four-units in omega arith
 
-refuses-all : RefusedExactly 1 1 (1 ∷ []) (0b1 ∷ []) (Overloaded 1 1) → ⊥
-refuses-all r = r .refused-has-none refl (piecesOf (0 ∷ 0 ∷ 0 ∷ 1 ∷ [])) one-unit
+refuses-all : RefusedExactly 3 1 (1 ∷ 2 ∷ []) (0b1 ∷ 0b1 ∷ []) (Overloaded 0b10 0b1) → ⊥
+refuses-all r = r .refused-has-none refl (piecesOf (0 ∷ 0 ∷ 0 ∷ 1 ∷ 0 ∷ 1 ∷ 1 ∷ 2 ∷ [])) one-unit
 
-another-number : RefusedExactly 1 1 (1 ∷ []) (0b1 ∷ []) NotTable → ⊥
+another-number : RefusedExactly 3 1 (1 ∷ 2 ∷ []) (0b1 ∷ 0b1 ∷ []) NotTable → ⊥
 another-number r = let e : _≡_ {A = ℕ} 8 0 = ap numberOf (r .else-accepted seven) in omega arith
   where
     seven : _≡_ {A = ℕ} 8 7 → ⊥
     seven z = omega arith
 
-names-none : RefusedExactly 1 1 (2 ∷ []) (0b1 ∷ []) (Overloaded 0 0) → ⊥
+names-none : RefusedExactly 3 1 (0 ∷ 4 ∷ []) (0b1 ∷ 0b1 ∷ []) (Overloaded 0 0) → ⊥
 names-none r = none (r .named refl .0) (ap (λ (l : List ℕ). at l 0) (r .named refl .2)) (r .named refl .3 .exceeds)
   where
-    none : (g : ℕ) → 0 ≡ g → Exceeds 1 1 (λ j. 1) (at (2 ∷ [])) (at (0b1 ∷ [])) g → ⊥
-    none g e x = absurd (fits (subst (λ (h : ℕ). Exceeds 1 1 (λ j. 1) (at (2 ∷ [])) (at (0b1 ∷ [])) h) (sym e) x))
+    none : (g : ℕ) → 0 ≡ g → Exceeds 2 1 (λ j. 3) (at (0 ∷ 4 ∷ [])) (at (0b1 ∷ 0b1 ∷ [])) g → ⊥
+    none g e x = absurd (fits (subst (λ (h : ℕ). Exceeds 2 1 (λ j. 3) (at (0 ∷ 4 ∷ [])) (at (0b1 ∷ 0b1 ∷ [])) h) (sym e) x))

@@ -1,5 +1,6 @@
 # make run: prove, build, plan the sample sets and print the answers. make test: the gate, whose last line is 'N passed, 0 failed'.
 # make compare: random lines through the compiled programs and the second program; SEED=.. and COUNT=.. may be given.
+# make pin: small changes of the rules' definitions, tried one by one: the values and proofs of the crate `rules` itself must refuse each.
 KIT := rattle-kit-5b logic 064da1ca440f63e7
 
 .PHONY: run test compare pin executive bench kit plan calls
@@ -33,6 +34,5 @@ test: kit
 compare: plan calls
 	@second/compare "$(COUNT)" "$(SEED)"
 
-# small changes of the rules' definitions, tried one by one: those that the crate `rules` does not refuse are shown
 pin: kit
 	@scripts/pin

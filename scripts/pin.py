@@ -40,7 +40,7 @@ FOLLOWS = re.compile("was not admitted")
 FORM = re.compile("is not a field of|explicit argument|is given [0-9]+ argument|binders, but its type|components but its type|not in scope|unknown")
 COPIES = 12
 # seconds of a processor: for a run, and for a change that is tried alone
-LONGEST = 120
+LONGEST = 90
 ALONE = 15
 
 

@@ -2,7 +2,7 @@
 -- Assumes nothing.
 mod Sets
 mod Accepted
-mod Overloads
+pub mod Overloads
 mod Lines
 pub mod Finishes
 use Rattle.rules.specs.Settled.{settled, AllHold}

@@ -46,22 +46,22 @@ beyond-limit a =
     let e : 11 ≤ 10 = a .within 0 (lit< tt) in
     omega arith
 
--- F 10, m 2, budgets 9, 5, masks {0,1}, {0}: the excess of {} is 0, of {0} -11, of {1} -5 and of {0,1} -6
+-- F 10, m 2, budgets 7, 7, 5, masks {0,1}, {0,1}, {0}: the excess of {0,1} is -6, that of {2} is -5
 abbrev Less : ℕ → ℕ → Type 0
-Less h g = NoMore 2 2 (limitOf 10) (at (9 ∷ 5 ∷ [])) (at (0b11 ∷ 0b01 ∷ [])) h g
+Less h g = NoMore 3 2 (limitOf 10) (at (7 ∷ 7 ∷ 5 ∷ [])) (at (0b11 ∷ 0b11 ∷ 0b01 ∷ [])) h g
 
-less-value : Less 0b01 0b10
+less-value : Less 0b011 0b100
 unfolding NoMore groupBudget groupCapacity capacity union sumTo has
 less-value = lit≤ tt
 
-equal-value : Less 0b01 0b01
+equal-value : Less 0b011 0b011
 unfolding NoMore groupBudget groupCapacity capacity union sumTo has
 equal-value = lit≤ tt
 
-more-value : Less 0b10 0b01 → ⊥
+more-value : Less 0b100 0b011 → ⊥
 unfolding NoMore groupBudget groupCapacity capacity union sumTo has
 more-value h =
-    let e : 25 ≤ 19 = h in
+    let e : 25 ≤ 24 = h in
     omega arith
 
 -- F 10, m 1: 5 and 5 fill the core, 5 and 6 exceed it by one

@@ -5,11 +5,11 @@ use mathlib.Core.List.{List, [], _∷_}
 use Prim.Native.Nat.{ℕ, zero, suc, _+_, _≤_, _<_}
 use native.Mathlib.Omega.{arith}
 use lib.Dec.{lit≤, lit<}
-use lib.ListN.{length, getD}
+use lib.ListN.{getD}
 use Rattle.rules.specs.Sum.{sumTo, lowest}
 use Rattle.rules.specs.Piece.{Piece, firstPieces}
 use Rattle.rules.specs.FrameTable.{every, everyTwo, sound, ordered, overlap, coreApart, taskApart, framePieces, frameTable}
-use Rattle.rules.specs.Service.{covers, covered, units}
+use Rattle.rules.specs.Service.{covers, covered}
 use Rattle.rules.specs.Finish.{Finish, beginOf}
 use Rattle.rules.specs.Tests.{badFrame, badCores}
 use Rattle.rules.specs.Jobs.{badJobCount, early, badJob, firstBadJob, firstAsking}

@@ -1,11 +1,10 @@
 -- Frame tables, piece by piece and pair by pair, the table check and the move count, worked out by hand.
 -- Assumes nothing.
 use mathlib.Core.Path.{_≡_, refl}
-use mathlib.Core.Bool.{Bool, true, false}
+use mathlib.Core.Bool.{true, false}
 use mathlib.Core.List.{List, [], _∷_, _++_}
 use Prim.Native.Nat.{ℕ, zero, suc, _+_}
 use lib.Dec.{eqb}
-use lib.ListN.{length}
 use Rattle.rules.specs.Sum.{sumTo}
 use Rattle.rules.specs.Piece.{Piece, pieceAt, firstPieces, wholePieces, piecesOf, numbersOf}
 use Rattle.rules.specs.FrameTable.{every, everyTwo, sound, ordered, overlap, coreApart, taskApart, framePieces, frameTable}

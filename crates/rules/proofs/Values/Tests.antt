@@ -1,12 +1,11 @@
 -- The tests 1 to 6: each at its edges, and each pair that stand one after another in their order.
 -- Assumes nothing.
 use mathlib.Core.Path.{_≡_, refl}
-use mathlib.Core.Bool.{Bool, true, false}
-use mathlib.Core.List.{List, [], _∷_}
-use Prim.Native.Nat.{ℕ}
+use mathlib.Core.Bool.{true, false}
+use mathlib.Core.List.{[], _∷_}
 use lib.ListN.{replicate}
 use Rattle.rules.specs.Sum.{firstAt}
-use Rattle.rules.specs.Tests.{testedSet, badFrame, badCores, badTasks, badMask, badBudget, shortTable, refused, passed, thenRoom, tested}
+use Rattle.rules.specs.Tests.{testedSet, badFrame, badCores, badTasks, badMask, badBudget, shortTable, refused, passed, tested}
 use Rattle.rules.specs.declared.Answer.the-variants.{FrameLength, CoreCount, TaskCount, Mask, Budget, ShortTable}
 
 -- "1 to 1,000,000"

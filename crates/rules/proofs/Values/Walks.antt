@@ -1,12 +1,12 @@
 -- Units, begins, job lists and the walker's tests in their order, worked out by hand.
 -- Assumes nothing.
 use mathlib.Core.Path.{_≡_, refl}
-use mathlib.Core.Bool.{Bool, true, false}
+use mathlib.Core.Bool.{true, false}
 use mathlib.Core.List.{List, [], _∷_}
 use Prim.Native.Nat.{ℕ}
 use lib.ListN.{replicate}
 use Rattle.rules.specs.Sum.{sumTo, lowest}
-use Rattle.rules.specs.Piece.{Piece, firstPieces, piecesOf}
+use Rattle.rules.specs.Piece.{Piece, firstPieces}
 use Rattle.rules.specs.FrameTable.{every, everyTwo, sound, ordered, overlap, coreApart, taskApart, framePieces, frameTable}
 use Rattle.rules.specs.Service.{covers, covered, unit, units}
 use Rattle.rules.specs.Finish.{beginOf}

@@ -49,12 +49,12 @@ pub record NamedGroup (F m : ℕ) (budgets masks : List ℕ) (g c : ℕ) : Type 
   pub cores : c ≡ union (length budgets) (at masks) g
 
 -- "no such table exists"
-abbrev pub NoTable : ℕ → ℕ → List ℕ → List ℕ → Type 0
-NoTable F m budgets masks = (ps : List Piece) → Obeys F (length budgets) m (at budgets) (at masks) ps → ⊥
+abbrev pub NoneObeys : ℕ → ℕ → List ℕ → List ℕ → Type 0
+NoneObeys F m budgets masks = (ps : List Piece) → Obeys F (length budgets) m (at budgets) (at masks) ps → ⊥
 
 -- a set that passed the tests 1 to 6: "overload is refused exactly when no such table exists, with the smallest group of greatest excess"
 pub record RefusedExactly (F m : ℕ) (budgets masks : List ℕ) (a : Answer) : Type 0 where
-  pub refused-has-none : numberOf a ≡ 7 → NoTable F m budgets masks
-  pub none-is-refused : NoTable F m budgets masks → numberOf a ≡ 7
+  pub refused-has-none : numberOf a ≡ 7 → NoneObeys F m budgets masks
+  pub none-is-refused : NoneObeys F m budgets masks → numberOf a ≡ 7
   pub else-accepted : (numberOf a ≡ 7 → ⊥) → a ≡ Accepted
   pub named : numberOf a ≡ 7 → (g : ℕ) × (c : ℕ) × (valuesOf a ≡ g ∷ c ∷ []) × NamedGroup F m budgets masks g c

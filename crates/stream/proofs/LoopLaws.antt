@@ -163,5 +163,12 @@ module _ {A : List ℕ → List ℕ → Type 0} (input : List ℕ) (s r : Source
       subst (λ (x : Source). Standing input x (g .len)) (sym e)
       (record { within = o .within; chunk = λ h. absurd (omega arith); line = λ u h. no-false u; last = λ u h. no-false u })
 
-  pub fed-less : (was : List ℕ) (t : Source) → Handed t was input s → (s .at ≡ s .end → ⊥) → Fed A (take (s .end - s .at) (drop (s .at) input)) buffer len out used buffer₁ out₁ g → Passed s (g .taken) r → ahead r < ahead t
-  fed-less was t h ne f p = turn-less t s r (g .taken) (h .no-more) (h .order) ne (omega (arith, f .some, part-long input (s .at) (s .end) (omega (arith, h .order)) (h .within))) p
+-- of a chunk that is not empty a byte at least was fed
+pub fed-some : {A : List ℕ → List ℕ → Type 0} {was input buffer out buffer₁ out₁ : List ℕ} {s t : Source} {len used : ℕ} {g : Stage} → Handed t was input s
+    → (s .at ≡ s .end → ⊥) → Fed A (take (s .end - s .at) (drop (s .at) input)) buffer len out used buffer₁ out₁ g → 1 ≤ g .taken
+fed-some {input = input} {s = s} h ne f = omega (arith, f .some, part-long input (s .at) (s .end) (omega (arith, h .order)) (h .within))
+
+-- so fewer may still be taken after it
+pub taken-less : {was input : List ℕ} {s t r : Source} (taken : ℕ) → Handed t was input s → (s .at ≡ s .end → ⊥) → 1 ≤ taken → Passed s taken r
+    → ahead r < ahead t
+taken-less {s = s} {t = t} {r = r} taken h ne one p = turn-less t s r taken (h .no-more) (h .order) ne one p

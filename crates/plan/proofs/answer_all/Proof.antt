@@ -8,7 +8,7 @@ use lib.ListN.{length}
 use Rattle.rules.specs.LineCall.{LineAnswer}
 use Rattle.stream.specs.Reading.{ahead}
 use Rattle.stream.specs.Rounds.{History}
-use Rattle.stream.proofs.LoopLaws.{Standing, standing-start, opened, all-taken, standing-again, fed-less}
+use Rattle.stream.proofs.LoopLaws.{Standing, standing-start, opened, all-taken, standing-again, fed-some, taken-less}
 use Rattle.stream.proofs.Rounds.{history-start, history-again, history-end}
 use borrow.Author.Needs.{needs}
 use Rattle.plan.proofs.answer_all.Statement.{statement}
@@ -63,7 +63,8 @@ loop-less : tie.Need-loop-less Inv-loop μ-loop
 loop-less c =
     let fed = c .before .before .before .before .before .before in
     let some = fed .before .before .before .before .before in
-    fed-less _ _ _ _ _ _ _ _ _ _ _ _ (some .before .before .before .more .ensures) (some .if1 .left) (fed .feed .ensures) (c .pass-on .ensures)
+    let chunk = some .before .before .before .more .ensures in
+    taken-less _ chunk (some .if1 .left) (omega (arith, fed-some chunk (some .if1 .left) (fed .feed .ensures), chunk .order, some .if1 .left)) (c .pass-on .ensures)
 
 loop-again : tie.Need-loop-again Inv-loop μ-loop
 loop-again c =

@@ -18,7 +18,7 @@ use Rattle.rules.specs.Obeys.{allowed, Obeys}
 use Rattle.rules.specs.Check.{checkAnswer}
 use Rattle.rules.specs.Tests.{badFrame, badCores}
 use Rattle.rules.specs.Plan.{at}
-use Rattle.rules.specs.Signed.{SignedTable, NamedGroup, NoTable, RefusedExactly}
+use Rattle.rules.specs.Signed.{SignedTable, NamedGroup, NoneObeys, RefusedExactly}
 use Rattle.rules.specs.declared.Answer.the-variants.{Accepted, Overloaded, NotTable}
 use Rattle.rules.proofs.Computed.{greatestTest, smallestTest, smallest-computed}
 
@@ -73,7 +73,7 @@ signed-value =
       beyond = refl;
     }
 
--- a task beyond the set's may be asked anything, and places beyond the pieces keep what they held
+-- one piece that ends at F, and places beyond it that keep what they held
 beyond-value : Small 1 (9 ∷ 9 ∷ 9 ∷ 9 ∷ 5 ∷ 6 ∷ []) (0 ∷ 0 ∷ 6 ∷ 4 ∷ 5 ∷ 6 ∷ [])
 unfolding checkAnswer badFrame badCores every everyTwo sound ordered overlap coreApart taskApart framePieces frameTable firstPieces covers covered sumTo allowed has extraOf extra coresOf runsOn
 beyond-value =
@@ -193,7 +193,7 @@ unfolding covered
 at-most-one t [] = omega arith
 at-most-one t (p ∷ ps) = elim (covers 1 t p) as (λ b. elim b [ true ↦ 1 | false ↦ covered 1 t ps ] ≤ 1) [ true ↦ lit≤ tt | false ↦ at-most-one t ps ]
 
-no-four-units : NoTable 3 1 (0 ∷ 4 ∷ []) (0b1 ∷ 0b1 ∷ [])
+no-four-units : NoneObeys 3 1 (0 ∷ 4 ∷ []) (0b1 ∷ 0b1 ∷ [])
 unfolding sumTo
 no-four-units ps o =
     let e : 0 + covered 1 0 ps + covered 1 1 ps + covered 1 2 ps ≡ 4 = o .exact 1 (lit< tt) in

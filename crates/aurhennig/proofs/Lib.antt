@@ -1,4 +1,5 @@
 pub mod CallLaws
 pub mod NeverSix
 pub mod OneAnswer
+pub mod ReplyLaws
 pub mod Told

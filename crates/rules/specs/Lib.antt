@@ -23,4 +23,6 @@ pub mod Jobs
 pub mod Walked
 pub mod Line
 pub mod LineCall
+pub mod Reply
+pub mod Replies
 pub mod Settled

@@ -33,6 +33,15 @@ pub struct Counted {
     pub moves: usize,
 }
 
+// What each call on plain arrays hands back to C, by value: the number of the answer, the values that it carries, and a count.
+#[repr(C)]
+pub struct Reply {
+    pub number: u64,
+    pub first: u64,
+    pub second: u64,
+    pub count: u64,
+}
+
 // Document 01's number of an answer.
 pub fn number(a: Answer) -> u8
     ensures { λ r. ⌜ r ≡ numberOf a ⌝ }

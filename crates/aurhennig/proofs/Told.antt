@@ -23,6 +23,7 @@ use Rattle.rules.specs.declared.Answer.{Answer}
 use Rattle.rules.specs.declared.Answer.the-variants.{Accepted, FrameLength, CoreCount, TaskCount, Mask, Budget, ShortTable, Overloaded, NotTable, JobList, NoUnits, ShortFinishes, BadLine}
 use Rattle.rules.specs.declared.Planned.{Planned}
 use Rattle.rules.proofs.Numbers.{length-first}
+use Rattle.rules.proofs.Replies.{number-zero}
 use Rattle.sums.proofs.Both.{and-left, and-right, or-left, or-right}
 use Rattle.sums.proofs.Sets.{union-lt}
 use Rattle.stretches.proofs.Readings.{Sound, sound-reads}
@@ -32,21 +33,6 @@ use Rattle.tests.proofs.PassedLaws.{passed-ready}
 use Rattle.answerline.specs.Shown.{PieceFits, PiecesFit, Shown}
 use Rattle.answerline.proofs.Distinct.{no-two-answers-share-a-line, no-two-tables-share-a-line}
 use Rattle.promises.proofs.Signed.{planned-within}
-
-number-zero : (a : Answer) → numberOf a ≡ 0 → a ≡ Accepted
-number-zero Accepted e = refl
-number-zero FrameLength e = absurd (omega arith)
-number-zero CoreCount e = absurd (omega arith)
-number-zero TaskCount e = absurd (omega arith)
-number-zero (Mask task) e = absurd (omega arith)
-number-zero (Budget task) e = absurd (omega arith)
-number-zero ShortTable e = absurd (omega arith)
-number-zero (Overloaded g c) e = absurd (omega arith)
-number-zero NotTable e = absurd (omega arith)
-number-zero (JobList job) e = absurd (omega arith)
-number-zero (NoUnits job) e = absurd (omega arith)
-number-zero ShortFinishes e = absurd (omega arith)
-number-zero BadLine e = absurd (omega arith)
 
 -- what the tests refuse with fits its line
 Fits : Tested → Type 0

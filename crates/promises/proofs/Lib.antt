@@ -1,5 +1,6 @@
 pub mod Agreed
 pub mod Carried
+pub mod Replied
 pub mod Extras
 pub mod Obeyed
 pub mod Signed

@@ -3,6 +3,7 @@ pub mod OneTask
 pub mod Computed
 pub mod Numbers
 pub mod Walked
+pub mod Replies
 pub mod Settled
 pub mod Values
 pub mod Unique

@@ -1,7 +1,7 @@
 -- P1 to P10 hold, as one joint statement over their list.
 -- Assumes nothing.
 mod Sets
-mod Accepted
+pub mod Accepted
 pub mod Overloads
 mod Lines
 pub mod Finishes

@@ -12,6 +12,7 @@ mod Obeyed
 mod Loops
 mod Lines
 mod Calls
+mod Replies
 mod Examples
 mod Signed
 mod Carried

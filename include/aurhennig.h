@@ -73,7 +73,7 @@ extern "C" {
 #define AURHENNIG_ACCEPTED        0  /*  00   P C M W L                   every test of the call passes */
 #define AURHENNIG_FRAME_LENGTH    1  /*  01   P C M W L                   the frame is 0 or above 1,000,000 */
 #define AURHENNIG_CORE_COUNT      2  /*  02   P C M W L                   the core count is 0 or above 16 */
-#define AURHENNIG_TASK_COUNT      3  /*  03   P . . . L                   there are more than 64 tasks, or (never on a line) budgets and masks differ in number */
+#define AURHENNIG_TASK_COUNT      3  /*  03   P . . . L                   there are more than 64 tasks, or (P alone) budgets and masks differ in number */
 #define AURHENNIG_MASK            4  /*  04   P . . . L  task             some mask is empty or has a bit at or above the core count; the lowest such task */
 #define AURHENNIG_BUDGET          5  /*  05   P . . . L  task             some budget is above the frame; the lowest such task */
 #define AURHENNIG_SHORT_TABLE     6  /*  06   P . . . L                   the lent table holds fewer than n + 2 * cores - 1 whole pieces, n being the task

@@ -14,10 +14,10 @@ plan calls: kit
 	@mkdir -p target && rt check $@ >target/$@.log 2>&1 || { tail -n 20 target/$@.log; exit 1; }
 	@tail -n 1 target/$@.log
 
-# each set's line and the answer under it; examples/sets.txt says what each is
+# each set: what it is, its line, its answer line, and the table or the refusal in words
 run: plan
 	@scripts/x86-64 run target/bin/plan <examples/sets.hex >target/sets.out
-	@paste -d '\n' examples/sets.hex target/sets.out
+	@scripts/show examples/sets.hex examples/sets.txt target/sets.out
 
 executive: kit
 	@mkdir -p target && rt staticlib aurhennig >target/staticlib.log 2>&1 || { tail -n 20 target/staticlib.log; exit 1; }

@@ -1,9 +1,11 @@
 # make run: prove, build, plan the sample sets and print the answers. make test: the gate, whose last line is 'N passed, 0 failed'.
 # make compare: random lines through the compiled programs and the second program; SEED=.. and COUNT=.. may be given.
+# make install: the library for C, to PREFIX=.. (target/install if it is missing), under DESTDIR=.. if that is given. make executive: the examples.
 # make pin: small changes of the rules' definitions, tried one by one: the values and proofs of the crate `rules` itself must refuse each.
 KIT := rattle-kit-5b logic 064da1ca440f63e7
+PREFIX := $(CURDIR)/target/install
 
-.PHONY: run test compare pin executive bench kit plan calls
+.PHONY: run test compare pin library install executive bench kit plan calls
 
 kit:
 	@command -v rt >/dev/null || { echo "rt is missing: install the Rattle kit ($(KIT)) and put its bin/ on PATH"; exit 1; }
@@ -14,15 +16,23 @@ plan calls: kit
 	@mkdir -p target && rt check $@ >target/$@.log 2>&1 || { tail -n 20 target/$@.log; exit 1; }
 	@tail -n 1 target/$@.log
 
-# each set's line and the answer under it; examples/sets.txt says what each is
+# each set: what it is, its line, its answer line, and the table or the refusal in words
 run: plan
 	@scripts/x86-64 run target/bin/plan <examples/sets.hex >target/sets.out
-	@paste -d '\n' examples/sets.hex target/sets.out
+	@scripts/show examples/sets.hex examples/sets.txt target/sets.out
 
-executive: kit
+# target/staticlib/libaurhennig.a, proved and compiled
+library: kit
 	@mkdir -p target && rt staticlib aurhennig >target/staticlib.log 2>&1 || { tail -n 20 target/staticlib.log; exit 1; }
-	@scripts/x86-64 cc -O2 -Wall -Wextra -Iinclude -o target/executive examples/executive.c target/staticlib/libaurhennig.a
+
+install: library
+	@scripts/install "$(PREFIX)" "$(DESTDIR)"
+
+# the C example over the archive, the Python example over the installed shared library
+executive: install
+	@scripts/x86-64 cc -std=c99 -O2 -Wall -Wextra -pedantic -Iinclude -o target/executive examples/executive.c target/staticlib/libaurhennig.a
 	@scripts/x86-64 run target/executive
+	@scripts/x86-64 python examples/executive.py "$(DESTDIR)$(PREFIX)/lib/libaurhennig.so"
 
 bench: executive plan calls
 	@bench/run

@@ -34,7 +34,7 @@ executive: install
 	@scripts/x86-64 run target/executive
 	@scripts/x86-64 python examples/executive.py "$(DESTDIR)$(PREFIX)/lib/libaurhennig.so"
 
-bench: executive plan calls
+bench: library plan calls
 	@bench/run
 
 test: kit

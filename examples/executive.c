@@ -121,8 +121,8 @@ static int walk(const struct set *set, const uint32_t *table, size_t table_len, 
         print_refusal(set, reply);
     for (size_t k = 0; k < reply.count; k++) {
         uint64_t bound = releases[k] + period + set->frame;
-        printf("  %s: %" PRIu32 " units released at %" PRIu64 " are finished at %" PRIu64 ", bound %" PRIu64 "\n", set->models[task].name, units[k],
-               releases[k], finishes[k], bound);
+        printf("  %s: %" PRIu32 " units released at %" PRIu64 " are finished at %" PRIu64 ", by %" PRIu64 " + %" PRIu64 " + %" PRIu32 " = %" PRIu64 "\n",
+               set->models[task].name, units[k], releases[k], finishes[k], releases[k], period, set->frame, bound);
         good = good && finishes[k] <= bound;
     }
     return good;
@@ -157,9 +157,9 @@ static int run(const struct set *set, uint64_t expected)
 
 int main(void)
 {
-    static const struct model flight[] = {{"airframe", 4, CORE(0) | CORE(1)}, {"engine", 3, CORE(0)}, {"weather", 5, CORE(1)}};
-    static const struct model crowded[] = {{"radar", 8, CORE(0)}, {"sonar", 8, CORE(0)}, {"sound", 3, CORE(1)}};
-    const struct set fits = {6, 2, flight, COUNT(flight)}, overloaded = {10, 2, crowded, COUNT(crowded)};
+    static const struct model sky[] = {{"stars", 4, CORE(0) | CORE(1)}, {"noise", 3, CORE(0)}, {"optics", 5, CORE(1)}};
+    static const struct model crowded[] = {{"tracker", 8, CORE(0)}, {"camera", 8, CORE(0)}, {"noise", 3, CORE(1)}};
+    const struct set fits = {6, 2, sky, COUNT(sky)}, overloaded = {10, 2, crowded, COUNT(crowded)};
     int good = run(&fits, AURHENNIG_ACCEPTED);
     good = run(&overloaded, AURHENNIG_OVERLOADED) && good;
     return good ? 0 : 1;

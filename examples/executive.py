@@ -128,7 +128,8 @@ def walk(library, given, table, task):
         return False
     bounds = [release + period + given.frame for release in releases]
     for release, asked, finish, bound in zip(releases, units, finishes, bounds):
-        print(f"  {given.models[task].name}: {asked} units released at {release} are finished at {finish}, bound {bound}")
+        by = f"by {release} + {period} + {given.frame} = {bound}"
+        print(f"  {given.models[task].name}: {asked} units released at {release} are finished at {finish}, {by}")
     return all(finish <= bound for finish, bound in zip(finishes, bounds))
 
 
@@ -162,8 +163,8 @@ def main():
         library = opened(path)
     except (OSError, AttributeError) as error:
         sys.exit(f"executive.py: {error}: run make install, or give the library's path; on a machine that is not x86-64, use scripts/x86-64 python")
-    fits = Set(6, 2, [Model("airframe", 4, {0, 1}), Model("engine", 3, {0}), Model("weather", 5, {1})])
-    overloaded = Set(10, 2, [Model("radar", 8, {0}), Model("sonar", 8, {0}), Model("sound", 3, {1})])
+    fits = Set(6, 2, [Model("stars", 4, {0, 1}), Model("noise", 3, {0}), Model("optics", 5, {1})])
+    overloaded = Set(10, 2, [Model("tracker", 8, {0}), Model("camera", 8, {0}), Model("noise", 3, {1})])
     try:
         good = [run(library, fits, ACCEPTED), run(library, overloaded, OVERLOADED)]
     except OverflowError as error:

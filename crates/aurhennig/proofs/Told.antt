@@ -20,7 +20,7 @@ use Rattle.rules.specs.Tests.{Tested, refused, passed, tested, badTasks, badMas
 use Rattle.rules.specs.Plan.{at, Refusal, Decided, planned, overloaded, PlanAnswer, PlanAnswerAt}
 use Rattle.rules.specs.Line.{answerLine}
 use Rattle.rules.specs.declared.Answer.{Answer}
-use Rattle.rules.specs.declared.Answer.the-variants.{Accepted, FrameLength, CoreCount, TaskCount, Mask, Budget, ShortTable, Overloaded, NotTable, JobList, NoUnits, ShortFinishes, BadLine}
+use Rattle.rules.specs.declared.Answer.the-variants.{Accepted, Overloaded}
 use Rattle.rules.specs.declared.Planned.{Planned}
 use Rattle.rules.proofs.Numbers.{length-first}
 use Rattle.rules.proofs.Replies.{number-zero}

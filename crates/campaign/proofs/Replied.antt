@@ -4,7 +4,6 @@ use mathlib.Core.Path.{_≡_, sym, _∙_, ap, subst}
 use mathlib.Core.List.{List}
 use Prim.Native.Nat.{ℕ, _*_, _<_}
 use lib.ListN.{length, getD, take}
-use Rattle.rules.specs.Answer.{numberOf}
 use Rattle.rules.specs.Paced.{Paced, Bounded}
 use Rattle.rules.specs.Plan.{at}
 use Rattle.rules.specs.Walked.{WalkAnswer}

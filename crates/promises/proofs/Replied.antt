@@ -7,9 +7,9 @@ use mathlib.Core.List.{List}
 use Prim.Native.Nat.{ℕ}
 use lib.Dec.{eqb}
 use lib.ListN.{getD}
-use Rattle.rules.specs.Answer.{numberOf, valuesOf}
+use Rattle.rules.specs.Answer.{numberOf}
 use Rattle.rules.specs.Tests.{Tested, refused, passed, tested}
-use Rattle.rules.specs.Plan.{PlanAnswer, PlanAnswerAt, Decided, planned, overloaded}
+use Rattle.rules.specs.Plan.{PlanAnswerAt, Decided, planned, overloaded}
 use Rattle.rules.specs.Signed.{SignedTable, NamedGroup, NoneObeys, RefusedExactly}
 use Rattle.rules.specs.Reply.{replyOf}
 use Rattle.rules.specs.Replies.{PlanReply}

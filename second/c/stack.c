@@ -1,10 +1,9 @@
 /* Measures how much stack each call touches: it is made on a painted stack, over random inputs, and the lowest byte that lost its paint counts.
- * It may not lie deeper than include/aurhennig.h says, whose numbers scripts/stack finds in the machine code.
+ * It may not lie deeper than scripts/stack finds in the machine code.
  *
- * use: stack [CALLS [SEED]]    (20,000 and 1)
+ * use: stack CALLS SEED <NUMBERS    NUMBERS are the lines of scripts/stack
  *
  * To be linked with -z now: else the first memset goes through the dynamic linker, on the same stack. */
-#include <inttypes.h>
 #include <stdio.h>
 #include <stdlib.h>
 #include <string.h>
@@ -134,17 +133,13 @@ static size_t touched(void (*make)(void), unsigned char paint)
 typedef struct {
     const char *name;
     void (*make)(void);
-    size_t most; /* what the header says */
     unsigned char *caller;
     size_t found;
 } measured;
 
 static measured calls[] = {
-    {"aurhennig_check_table", make_check, AURHENNIG_STACK_CHECK_TABLE, NULL, 0},
-    {"aurhennig_count_moves", make_moves, AURHENNIG_STACK_COUNT_MOVES, NULL, 0},
-    {"aurhennig_plan", make_plan, AURHENNIG_STACK_PLAN, NULL, 0},
-    {"aurhennig_plan_line", make_line, AURHENNIG_STACK_PLAN_LINE, NULL, 0},
-    {"aurhennig_walk", make_walk, AURHENNIG_STACK_WALK, NULL, 0},
+    {"aurhennig_check_table", make_check, NULL, 0}, {"aurhennig_count_moves", make_moves, NULL, 0}, {"aurhennig_plan", make_plan, NULL, 0},
+    {"aurhennig_plan_line", make_line, NULL, 0},    {"aurhennig_walk", make_walk, NULL, 0},
 };
 enum { KINDS = sizeof calls / sizeof *calls };
 
@@ -158,11 +153,8 @@ static void mark_all(void)
     line_now = aurhennig_plan_line;
 }
 
-int main(int words, char **word)
+static void measure(uint64_t count)
 {
-    uint64_t count = words > 1 ? strtoull(word[1], NULL, 10) : 20000, seed = words > 2 ? strtoull(word[2], NULL, 10) : 1;
-    start_random(seed);
-    mark_all();
     for (uint64_t call = 0; call < count; call++) {
         measured *now = &calls[call % KINDS];
         pick_inputs();
@@ -171,12 +163,32 @@ int main(int words, char **word)
         if (found > now->found)
             now->found = found;
     }
-    for (int k = 0; k < KINDS; k++) {
-        printf("%s touched %zu of %zu bytes\n", calls[k].name, calls[k].found, calls[k].most);
-        if (calls[k].found > calls[k].most) {
-            fprintf(stderr, "seed %" PRIu64 ": %s touched %zu bytes of stack, aurhennig.h says %zu\n", seed, calls[k].name, calls[k].found, calls[k].most);
-            return 1;
-        }
+}
+
+/* Whether a call kept within its line of scripts/stack. */
+static int within(const measured *call)
+{
+    char name[64];
+    size_t most;
+    if (scanf("%63s %zu", name, &most) != 2 || strcmp(name, call->name) != 0) {
+        fprintf(stderr, "stack: standard input has no line for %s: give it the lines of scripts/stack\n", call->name);
+        exit(2);
     }
-    return 0;
+    printf("%s touched %zu of %zu bytes of stack\n", name, call->found, most);
+    return call->found <= most;
+}
+
+int main(int words, char **word)
+{
+    if (words != 3) {
+        fprintf(stderr, "use: stack CALLS SEED <NUMBERS\n");
+        return 2;
+    }
+    start_random(strtoull(word[2], NULL, 10));
+    mark_all();
+    measure(strtoull(word[1], NULL, 10));
+    int all = 1;
+    for (int k = 0; k < KINDS; k++)
+        all &= within(&calls[k]);
+    return all ? 0 : 1;
 }

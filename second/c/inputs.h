@@ -50,11 +50,19 @@ void random_table(table_input *table);
 /* Jobs over a table, of which about a third is spoiled. */
 void random_jobs(job_input *jobs, const table_input *table);
 
-/* A set's line; hands back its length. It is of use only where both counts are the same, cores and tasks below 256. */
+/* Lines have room for LINE_ROOM bytes, more than a line that is well written can have. */
+enum { LINE_ROOM = MOST_DIGITS + 5100 };
+
+/* Whether a line can hold the set: as many masks as budgets, and bytes for their number and for the cores. */
+int has_line(const set_input *set);
+
+/* Writes the line of a set that has one, and hands back its length. */
 size_t set_line(const set_input *set, uint8_t *line);
 
-/* Damages a line of this length, with room for LINE_ROOM bytes; hands back its new length. */
-enum { LINE_ROOM = MOST_DIGITS + 5100 };
+/* Reads a line, which is lost, into a set with a table of 95 pieces; 0 if it is not well written. */
+int read_set(uint8_t *line, size_t digits, set_input *set);
+
+/* Damages a line of this length that has a byte, or makes one up; hands back its new length. */
 size_t damage_line(uint8_t *line, size_t len);
 
 #endif

@@ -36,20 +36,12 @@ static void read_words(fields *from, uint32_t *to, size_t count)
 
 static uint8_t *answer_plan(uint8_t *line, size_t digits)
 {
-    static uint32_t budgets[255], table[4 * MOST_PIECES];
-    static uint16_t masks[255];
-    if (digits < 12 || digits > MOST_DIGITS || !decode(line, digits))
+    static set_input set;
+    static uint32_t table[4 * MOST_PIECES];
+    if (!read_set(line, digits, &set))
         return bad_line();
-    fields from = {line, digits / 2};
-    uint32_t frame = (uint32_t)next_field(&from, 4), cores = (uint32_t)next_field(&from, 1);
-    size_t tasks = next_field(&from, 1);
-    if (from.left != 6 * tasks)
-        return bad_line();
-    for (size_t task = 0; task < tasks; task++) {
-        budgets[task] = (uint32_t)next_field(&from, 4);
-        masks[task] = (uint16_t)next_field(&from, 2);
-    }
-    aurhennig_reply reply = aurhennig_plan(frame, cores, budgets, tasks, masks, tasks, table, 4 * MOST_PIECES);
+    aurhennig_reply reply =
+        aurhennig_plan(set.frame, set.cores, set.budgets, set.budget_count, set.masks, set.mask_count, table, set.table_len);
     if (reply.count > MOST_PIECES)
         too_many("pieces");
     return put_plan_answer(answer, reply, table);

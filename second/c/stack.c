@@ -107,7 +107,7 @@ static void pick_inputs(void)
         crowded_set(&set);
     else
         random_set(&set);
-    line_len = set.budget_count < 256 ? set_line(&set, line) : 0;
+    line_len = has_line(&set) ? set_line(&set, line) : 0;
     if (line_len > 0 && one_in(8))
         line_len = damage_line(line, line_len);
     random_table(&table);

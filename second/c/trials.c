@@ -4,7 +4,6 @@
 
 #include "answer_line.h"
 #include "expected.h"
-#include "hex.h"
 #include "on_lent.h"
 #include "random.h"
 #include "report.h"
@@ -67,47 +66,42 @@ void try_walk(void)
     }
 }
 
-/* The line call says what the planner says on a table of 95 pieces. */
-static void judge_line(const set_input *set, const uint8_t *output, size_t wrote)
+/* The line call says what the planner says on a table of 95 pieces, or that the line is not well written. */
+static size_t wanted_line(uint8_t *line, size_t len, uint8_t *wanted)
 {
-    uint8_t wanted[AURHENNIG_LEAST_OUTPUT];
+    static set_input set;
     uint32_t table[4 * MOST_PIECES];
-    aurhennig_reply reply =
-        aurhennig_plan(set->frame, set->cores, set->budgets, set->budget_count, set->masks, set->mask_count, table, 4 * MOST_PIECES);
+    aurhennig_reply reply = {12, 0, 0, 0};
+    if (read_set(line, len, &set))
+        reply = aurhennig_plan(set.frame, set.cores, set.budgets, set.budget_count, set.masks, set.mask_count, table, set.table_len);
     right(reply.count <= MOST_PIECES, "more than 95 pieces");
-    size_t len = (size_t)(put_plan_answer(wanted, reply, table) - wanted);
-    right(wrote == len && memcmp(output, wanted, len) == 0, "the line call and the planner differ");
+    came(PLAN_LINE, reply.number);
+    return (size_t)(put_plan_answer(wanted, reply, table) - wanted);
 }
 
-/* A set that a line can hold: its counts are bytes. */
-static void line_set(set_input *set)
+static size_t random_line(uint8_t *line)
 {
+    static set_input set;
     do
-        random_set(set);
-    while (set->budget_count != set->mask_count || set->budget_count > 255 || set->cores > 255);
+        random_set(&set);
+    while (!has_line(&set));
+    size_t len = set_line(&set, line);
+    return one_in(4) ? damage_line(line, len) : len;
 }
 
 void try_plan_line(void)
 {
-    static set_input set;
     static uint8_t line[LINE_ROOM];
-    line_set(&set);
-    size_t len = set_line(&set, line);
-    int damaged = one_in(4);
-    if (damaged)
-        len = damage_line(line, len);
-    size_t room = one_in(8) ? below(AURHENNIG_LEAST_OUTPUT) : AURHENNIG_LEAST_OUTPUT + (one_in(2) ? 0 : below(100));
+    uint8_t wanted[AURHENNIG_LEAST_OUTPUT];
     const uint8_t *output;
+    size_t len = random_line(line);
+    size_t room = one_in(8) ? below(AURHENNIG_LEAST_OUTPUT) : AURHENNIG_LEAST_OUTPUT + (one_in(2) ? 0 : below(100));
     size_t wrote = line_on_lent(line, len, room, &output);
     if (room < AURHENNIG_LEAST_OUTPUT) {
         right(wrote == 0, "an answer in an output below the least");
         came(PLAN_LINE, 6);
         return;
     }
-    right(wrote >= 2 && wrote <= AURHENNIG_LEAST_OUTPUT, "a line of a length that no answer has");
-    uint8_t number[2] = {output[0], output[1]};
-    right(decode(number, 2), "a line that does not begin with a number");
-    came(PLAN_LINE, number[0]);
-    if (!damaged)
-        judge_line(&set, output, wrote);
+    size_t wanted_len = wanted_line(line, len, wanted);
+    right(wrote == wanted_len && memcmp(output, wanted, wrote) == 0, "the line call and the planner differ");
 }

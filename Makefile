@@ -41,8 +41,17 @@ test: kit
 	@second/judge-stored
 	@rt ci
 
-compare: plan calls
+compare: plan calls library
 	@second/compare "$(COUNT)" "$(SEED)"
+
+# the compiled calls from C: the header alone, the stack's numbers, guarded calls; CALLS=.. and SEED=.. may be given
+.PHONY: from-c sanitize
+from-c: library
+	@second/from-c test "$(CALLS)" "$(SEED)"
+
+# the same calls under the sanitizers, and under valgrind where it can run them
+sanitize: library
+	@second/from-c sanitize "$(CALLS)" "$(SEED)"
 
 pin: kit
 	@scripts/pin

@@ -1,11 +1,12 @@
 # make run: prove, build, plan the sample sets and print the answers. make test: the gate, whose last line is 'N passed, 0 failed'.
-# make compare: random lines through the compiled programs and the second program; SEED=.. and COUNT=.. may be given.
+# make compare: random lines through the compiled programs, the calls from C and the second program; SEED=.. and COUNT=.. may be given.
+# make from-c: the compiled calls, tried from C. make sanitize: the same under the sanitizers and valgrind.
 # make install: the library for C, to PREFIX=.. (target/install if it is missing), under DESTDIR=.. if that is given. make executive: the examples.
 # make pin: small changes of the rules' definitions, tried one by one: the values and proofs of the crate `rules` itself must refuse each.
 KIT := rattle-kit-5b logic 064da1ca440f63e7
 PREFIX := $(CURDIR)/target/install
 
-.PHONY: run test compare pin library install executive bench kit plan calls
+.PHONY: run test compare from-c sanitize pin library install executive bench kit plan calls
 
 kit:
 	@command -v rt >/dev/null || { echo "rt is missing: install the Rattle kit ($(KIT)) and put its bin/ on PATH"; exit 1; }
@@ -39,13 +40,13 @@ bench: library plan calls
 
 test: kit
 	@second/judge-stored
+	@$(MAKE) --no-print-directory from-c
 	@rt ci
 
 compare: plan calls library
 	@second/compare "$(COUNT)" "$(SEED)"
 
 # the compiled calls from C: the header alone, the stack's numbers, guarded calls; CALLS=.. and SEED=.. may be given
-.PHONY: from-c sanitize
 from-c: library
 	@second/from-c test "$(CALLS)" "$(SEED)"
 

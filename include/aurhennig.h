@@ -56,15 +56,13 @@ extern "C" {
 #define AURHENNIG_LONGEST_LINE 3072                       /* digits of a line: 12 to this */
 #define AURHENNIG_LEAST_OUTPUT 1906                       /* output lent to aurhennig_plan_line, in bytes: at least this, the line of 95 pieces */
 
-/* AURHENNIG_STACK is the exact number of bytes of stack that a call needs at most. Call by call:
- *
- *   aurhennig_plan          12000
- *   aurhennig_check_table   12000
- *   aurhennig_count_moves   12000
- *   aurhennig_walk          12000
- *   aurhennig_plan_line     12000
- */
-#define AURHENNIG_STACK 12000
+/* Stack: the exact number of bytes that each call needs at most, its return address included, whatever it is handed. What memcpy and memset of the C
+ * library take for themselves comes on top, and where they are bound when first called, what the loader takes to find them. */
+#define AURHENNIG_STACK_PLAN 5496
+#define AURHENNIG_STACK_CHECK_TABLE 128
+#define AURHENNIG_STACK_COUNT_MOVES 176
+#define AURHENNIG_STACK_WALK 960
+#define AURHENNIG_STACK_PLAN_LINE 8632
 
 /* The numbers: name, decimal and, as on a line, hexadecimal. `first` and `second` are what the reply carries, 0 where the row says nothing. The calls
  * that give the number: P aurhennig_plan, C aurhennig_check_table, M aurhennig_count_moves, W aurhennig_walk, L aurhennig_plan_line.

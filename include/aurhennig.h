@@ -57,7 +57,8 @@ extern "C" {
 #define AURHENNIG_LEAST_OUTPUT 1906                       /* output lent to aurhennig_plan_line, in bytes: at least this, the line of 95 pieces */
 
 /* Stack: the exact number of bytes that each call needs at most, its return address included, whatever it is handed. What memcpy and memset of the C
- * library take for themselves comes on top, and where they are bound when first called, what the loader takes to find them. */
+ * library take for themselves comes on top, and where a program binds them only when they are first called, what the loader takes to find them: link
+ * such a program with -Wl,-z,now. The shared library binds them when it is loaded. */
 #define AURHENNIG_STACK_PLAN 5496
 #define AURHENNIG_STACK_CHECK_TABLE 128
 #define AURHENNIG_STACK_COUNT_MOVES 176

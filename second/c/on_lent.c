@@ -30,26 +30,27 @@ aurhennig_reply plan_on_lent(const set_input *set, const uint32_t **written)
     return reply;
 }
 
-aurhennig_reply check_on_lent(const table_input *table)
+/* The table check and the move count are lent the same, and write nothing. */
+static aurhennig_reply table_on_lent(const table_input *table, enum call call)
 {
     lent_back();
     const uint32_t *numbers = lend_copy(table->numbers, table->len, sizeof *numbers);
     lent_begin();
-    aurhennig_reply reply = aurhennig_check_table(table->frame, table->cores, numbers, table->len);
-    came(CHECK_TABLE, reply.number);
+    aurhennig_reply reply = call == CHECK_TABLE ? aurhennig_check_table(table->frame, table->cores, numbers, table->len)
+                                                : aurhennig_count_moves(table->frame, table->cores, numbers, table->len);
+    came(call, reply.number);
     kept(reply, NULL, 0);
     return reply;
 }
 
+aurhennig_reply check_on_lent(const table_input *table)
+{
+    return table_on_lent(table, CHECK_TABLE);
+}
+
 aurhennig_reply moves_on_lent(const table_input *table)
 {
-    lent_back();
-    const uint32_t *numbers = lend_copy(table->numbers, table->len, sizeof *numbers);
-    lent_begin();
-    aurhennig_reply reply = aurhennig_count_moves(table->frame, table->cores, numbers, table->len);
-    came(COUNT_MOVES, reply.number);
-    kept(reply, NULL, 0);
-    return reply;
+    return table_on_lent(table, COUNT_MOVES);
 }
 
 aurhennig_reply walk_on_lent(const table_input *table, const job_input *jobs, const uint64_t **written)

@@ -38,9 +38,10 @@ executive: install
 bench: library plan calls
 	@bench/run
 
+# The kit needs no network, and so the gate needs none: where no C for x86-64 can be had, the calls from C are left out, and it says so.
 test: kit
 	@second/judge-stored
-	@$(MAKE) --no-print-directory from-c
+	@if scripts/x86-64 ready; then $(MAKE) --no-print-directory from-c; else echo "from-c: left out, the calls from C are not tried"; fi
 	@rt ci
 
 compare: plan calls library

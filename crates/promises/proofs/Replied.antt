@@ -17,7 +17,7 @@ use Rattle.rules.specs.declared.Answer.{Answer}
 use Rattle.rules.specs.declared.Answer.the-variants.{Accepted}
 use Rattle.rules.specs.declared.Planned.{Planned}
 use Rattle.rules.specs.declared.Reply.{Reply}
-use Rattle.rules.proofs.Replies.{number-zero, no-two-answers-share-a-reply, accepted-counts}
+use Rattle.rules.proofs.Replies.{no-two-answers-share-a-reply, accepted-reply, accepted-counts}
 use Rattle.promises.proofs.Agreed.{Agree, equal, chosen, Chosen, plan-answers-agree}
 use Rattle.promises.proofs.Signed.{accepted-signed, refused-exactly}
 
@@ -77,7 +77,7 @@ module _ (F m : ℕ) (budgets masks before : List ℕ) (r : Reply) (after : List
   reply-signed e = subst (λ (q : Planned). SignedTable F m budgets masks before q after) same (accepted-signed F m budgets masks before (p .planned) after (p .answer) accepted)
     where
       accepted : p .planned .answer ≡ Accepted
-      accepted = number-zero (p .planned .answer) (sym number-is ∙ e)
+      accepted = accepted-reply (p .planned .answer) (p .planned .pieces) r (p .reply) e
 
       same : _≡_ {A = Planned} (p .planned) (record { answer = Accepted; pieces = r .count })
       same = λ i. record { answer = accepted i; pieces = sym reply-counts-pieces i }

@@ -47,6 +47,11 @@ pub no-two-answers-share-a-reply : (a b : Answer) (c d : ℕ) → replyOf a c �
 unfolding replyOf
 no-two-answers-share-a-reply a b c d e = sym (told a) ∙ ap (λ (r : Reply). answerOf (r .number) (r .first) (r .second)) e ∙ told b
 
+-- a reply of number 0 is that of an accepted answer
+pub accepted-reply : (a : Answer) (c : ℕ) (r : Reply) → r ≡ replyOf a c → r .number ≡ 0 → a ≡ Accepted
+unfolding replyOf
+accepted-reply a c r e z = number-zero a (ap (λ (q : Reply). q .number) (sym e) ∙ z)
+
 -- of an accepted answer the reply tells the count too
 pub accepted-counts : (c : ℕ) → replyOf Accepted c .count ≡ c
 unfolding replyOf

@@ -1,4 +1,4 @@
--- What the calls on plain arrays hand back to C: an answer and a count, turned into a reply of four numbers.
+-- What the calls on plain arrays hand back to C, as include/aurhennig.h tells it: an answer and a count, turned into a reply of four numbers.
 -- Assumes nothing.
 use Prim.Native.Nat.{ℕ}
 use mathlib.Core.Bool.{cond}

@@ -9,7 +9,7 @@ use types.Run.{OneOf, miss}
 use denote.Enum.Declared.{tagOf}
 use Rattle.rules.proofs.Answer.{the-type}
 use Rattle.rules.specs.declared.Answer.{Answer}
-use Rattle.rules.specs.declared.Answer.the-variants.{Accepted, FrameLength, CoreCount, TaskCount, Mask, Budget, ShortTable, Overloaded, NotTable, JobList, NoUnits, ShortFinishes, BadLine}
+use Rattle.rules.specs.declared.Answer.the-variants.{Accepted, FrameLength, CoreCount, TaskCount, EmptyMask, Budget, ShortTable, Overloaded, NotTable, JobList, NoUnits, ShortFinishes, BadLine, MissingCore}
 use Rattle.rules.specs.Piece.{Piece, firstPieces}
 use Rattle.rules.specs.Answer.{numberOf}
 use Rattle.rules.specs.Line.{bytes, pieceLines, lineWidths, valuesLine, answerRest, answerLine}
@@ -34,9 +34,9 @@ module _ (a : Answer) where
     simp (e, length-append, length-digits, length-pieces, length-first) (omega arith),
   )
 
-  pub rest-mask : (o o₁ : List ℕ) (ps : List Piece) (task : ℕ) → a ≡ Mask task → o₁ ≡ pasted o 2 (bytes 1 task) → Ends o o₁ 4 (answerRest a ps)
+  pub rest-empty : (o o₁ : List ℕ) (ps : List Piece) (task : ℕ) → a ≡ EmptyMask task → o₁ ≡ pasted o 2 (bytes 1 task) → Ends o o₁ 4 (answerRest a ps)
   unfolding lineWidths valuesLine answerRest
-  rest-mask o o₁ ps task e e₁ = simp (e, append-nil) (e₁, simp length-digits)
+  rest-empty o o₁ ps task e e₁ = simp (e, append-nil) (e₁, simp length-digits)
 
   pub rest-budget : (o o₁ : List ℕ) (ps : List Piece) (task : ℕ) → a ≡ Budget task → o₁ ≡ pasted o 2 (bytes 1 task) → Ends o o₁ 4 (answerRest a ps)
   unfolding lineWidths valuesLine answerRest
@@ -50,6 +50,14 @@ module _ (a : Answer) where
     simp (e, append-nil, length-append, length-digits),
   )
 
+  pub rest-missing : (o o₁ o₂ : List ℕ) (ps : List Piece) (task core : ℕ) → a ≡ MissingCore task core → 1906 ≤ length o → o₁ ≡ pasted o 2 (bytes 1 task) → o₂ ≡ pasted o₁ 4 (bytes 1 core)
+      → Ends o o₂ 6 (answerRest a ps)
+  unfolding lineWidths valuesLine answerRest
+  rest-missing o o₁ o₂ ps task core e h e₁ e₂ = (
+    e₂ ∙ ap (λ (x : List ℕ). pasted x 4 (bytes 1 core)) e₁ ∙ pasted-twice o 2 (bytes 1 task) 4 (bytes 1 core) (simp length-digits) (omega arith) ∙ simp (e, append-nil),
+    simp (e, append-nil, length-append, length-digits),
+  )
+
 -- the other answers carry nothing on a line
 rest-none : (a : Answer) (ps : List Piece) → OneOf (1 ∷ 2 ∷ 3 ∷ 6 ∷ 8 ∷ 9 ∷ 10 ∷ 11 ∷ 12 ∷ []) (tagOf the-type a) → answerRest a ps ≡ []
 unfolding lineWidths valuesLine answerRest
@@ -57,7 +65,7 @@ rest-none Accepted ps k = absurd (miss (1 ∷ 2 ∷ 3 ∷ 6 ∷ 8 ∷ 9 ∷ 10 �
 rest-none FrameLength ps k = refl
 rest-none CoreCount ps k = refl
 rest-none TaskCount ps k = refl
-rest-none (Mask task) ps k = absurd (miss (1 ∷ 2 ∷ 3 ∷ 6 ∷ 8 ∷ 9 ∷ 10 ∷ 11 ∷ 12 ∷ []) 4 tt k)
+rest-none (EmptyMask task) ps k = absurd (miss (1 ∷ 2 ∷ 3 ∷ 6 ∷ 8 ∷ 9 ∷ 10 ∷ 11 ∷ 12 ∷ []) 4 tt k)
 rest-none (Budget task) ps k = absurd (miss (1 ∷ 2 ∷ 3 ∷ 6 ∷ 8 ∷ 9 ∷ 10 ∷ 11 ∷ 12 ∷ []) 5 tt k)
 rest-none ShortTable ps k = refl
 rest-none (Overloaded g c) ps k = absurd (miss (1 ∷ 2 ∷ 3 ∷ 6 ∷ 8 ∷ 9 ∷ 10 ∷ 11 ∷ 12 ∷ []) 7 tt k)
@@ -66,6 +74,7 @@ rest-none (JobList job) ps k = refl
 rest-none (NoUnits job) ps k = refl
 rest-none ShortFinishes ps k = refl
 rest-none BadLine ps k = refl
+rest-none (MissingCore task core) ps k = absurd (miss (1 ∷ 2 ∷ 3 ∷ 6 ∷ 8 ∷ 9 ∷ 10 ∷ 11 ∷ 12 ∷ []) 13 tt k)
 
 pub rest-other : (a : Answer) (o : List ℕ) (ps : List Piece) → OneOf (1 ∷ 2 ∷ 3 ∷ 6 ∷ 8 ∷ 9 ∷ 10 ∷ 11 ∷ 12 ∷ []) (tagOf the-type a) → Ends o o 2 (answerRest a ps)
 rest-other a o ps k = simp (rest-none a ps k) (sym (pasted-none o 2), refl)

@@ -11,7 +11,7 @@ use Rattle.rules.specs.Piece.{Piece}
 use Rattle.rules.specs.Answer.{numberOf}
 use Rattle.rules.specs.Line.{digitsAt, digits, bytes, pieceLine, pieceLines, lineWidths, valuesLine, answerRest, answerLine}
 use Rattle.rules.specs.declared.Answer.{Answer}
-use Rattle.rules.specs.declared.Answer.the-variants.{Accepted, FrameLength, CoreCount, TaskCount, Mask, Budget, ShortTable, Overloaded, NotTable, JobList, NoUnits, ShortFinishes, BadLine}
+use Rattle.rules.specs.declared.Answer.the-variants.{Accepted, FrameLength, CoreCount, TaskCount, EmptyMask, Budget, ShortTable, Overloaded, NotTable, JobList, NoUnits, ShortFinishes, BadLine, MissingCore}
 use Rattle.answerline.specs.Shown.{PieceFits, PiecesFit, Shown}
 use Rattle.fields.proofs.PastedLaws.{length-digits}
 use Rattle.fields.proofs.ReadBack.{digits-read}
@@ -29,7 +29,7 @@ number-back a ps = at-read (answerLine a ps) [] (answerRest a ps) 0 2 (numberOf 
     small FrameLength = omega arith
     small CoreCount = omega arith
     small TaskCount = omega arith
-    small (Mask task) = omega arith
+    small (EmptyMask task) = omega arith
     small (Budget task) = omega arith
     small ShortTable = omega arith
     small (Overloaded group cores) = omega arith
@@ -38,6 +38,7 @@ number-back a ps = at-read (answerLine a ps) [] (answerRest a ps) 0 2 (numberOf 
     small (NoUnits job) = omega arith
     small ShortFinishes = omega arith
     small BadLine = omega arith
+    small (MissingCore task core) = omega arith
 
 -- the answer of a line, by its number
 answerWith : ℕ → List ℕ → Answer
@@ -46,12 +47,13 @@ answerWith n l =
     (cond (eqb n 1) FrameLength
     (cond (eqb n 2) CoreCount
     (cond (eqb n 3) TaskCount
-    (cond (eqb n 4) (Mask (digitsAt l 2 2))
+    (cond (eqb n 4) (EmptyMask (digitsAt l 2 2))
     (cond (eqb n 5) (Budget (digitsAt l 2 2))
     (cond (eqb n 6) ShortTable
     (cond (eqb n 7) (Overloaded (digitsAt l 2 16) (digitsAt l 18 4))
     (cond (eqb n 8) NotTable
-    (cond (eqb n 11) ShortFinishes BadLine)))))))))
+    (cond (eqb n 11) ShortFinishes
+    (cond (eqb n 12) BadLine (MissingCore (digitsAt l 2 2) (digitsAt l 4 2))))))))))))
 
 answer-back : (a : Answer) (ps : List Piece) → Shown a ps → answerWith (numberOf a) (answerLine a ps) ≡ a
 unfolding answerWith answerLine lineWidths valuesLine answerRest
@@ -59,7 +61,7 @@ answer-back Accepted ps s = refl
 answer-back FrameLength ps s = refl
 answer-back CoreCount ps s = refl
 answer-back TaskCount ps s = refl
-answer-back (Mask task) ps s = ap Mask (at-read (answerLine (Mask task) ps) (bytes 1 4) [] 2 2 task refl (length-digits 2 4) s)
+answer-back (EmptyMask task) ps s = ap EmptyMask (at-read (answerLine (EmptyMask task) ps) (bytes 1 4) [] 2 2 task refl (length-digits 2 4) s)
 answer-back (Budget task) ps s = ap Budget (at-read (answerLine (Budget task) ps) (bytes 1 5) [] 2 2 task refl (length-digits 2 5) s)
 answer-back ShortTable ps s = refl
 answer-back (Overloaded group cores) ps s =
@@ -72,6 +74,11 @@ answer-back (JobList job) ps s = absurd s
 answer-back (NoUnits job) ps s = absurd s
 answer-back ShortFinishes ps s = refl
 answer-back BadLine ps s = refl
+answer-back (MissingCore task core) ps s =
+    simp (
+      at-read (answerLine (MissingCore task core) ps) (bytes 1 13) (bytes 1 core ++ []) 2 2 task refl (length-digits 2 13) (s .0),
+      at-read (answerLine (MissingCore task core) ps) (bytes 1 13 ++ bytes 1 task) [] 4 2 core (simp append-assoc) (simp (length-append, length-digits)) (s .1),
+    )
 
 -- the pieces of a line from the place p on
 piecesFrom : List ℕ → ℕ → ℕ → List Piece

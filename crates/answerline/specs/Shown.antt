@@ -5,7 +5,7 @@ use mathlib.Core.List.{List, [], _∷_}
 use lib.ListN.{length}
 use Rattle.rules.specs.Piece.{Piece}
 use Rattle.rules.specs.declared.Answer.{Answer}
-use Rattle.rules.specs.declared.Answer.the-variants.{Accepted, FrameLength, CoreCount, TaskCount, Mask, Budget, ShortTable, Overloaded, NotTable, JobList, NoUnits, ShortFinishes, BadLine}
+use Rattle.rules.specs.declared.Answer.the-variants.{Accepted, FrameLength, CoreCount, TaskCount, EmptyMask, Budget, ShortTable, Overloaded, NotTable, JobList, NoUnits, ShortFinishes, BadLine, MissingCore}
 
 -- "per piece core (1), task (1), start (4), length (4)"
 pub record PieceFits (p : Piece) : Type 0 where
@@ -18,13 +18,13 @@ abbrev pub PiecesFit : List Piece → Type 0
 PiecesFit [] = Unit {0}
 PiecesFit (p ∷ ps) = PieceFits p × PiecesFit ps
 
--- "the piece count (2)", "the task (1)", "the group (8 ..) and its cores (2)"; the answers 9 and 10 of a walk carry a job that no line shows
+-- "the piece count (2)", "the task (1)", "the group (8 ..) and its cores (2)", "task (1) and core (1)"; the answers 9 and 10 of a walk carry a job that no line shows
 abbrev pub Shown : Answer → List Piece → Type 0
 Shown Accepted ps = (length ps < 2 ^ 16) × PiecesFit ps
 Shown FrameLength ps = Unit {0}
 Shown CoreCount ps = Unit {0}
 Shown TaskCount ps = Unit {0}
-Shown (Mask task) ps = task < 2 ^ 8
+Shown (EmptyMask task) ps = task < 2 ^ 8
 Shown (Budget task) ps = task < 2 ^ 8
 Shown ShortTable ps = Unit {0}
 Shown (Overloaded group cores) ps = (group < 2 ^ 64) × (cores < 2 ^ 16)
@@ -33,3 +33,4 @@ Shown (JobList job) ps = ⊥
 Shown (NoUnits job) ps = ⊥
 Shown ShortFinishes ps = Unit {0}
 Shown BadLine ps = Unit {0}
+Shown (MissingCore task core) ps = (task < 2 ^ 8) × (core < 2 ^ 8)

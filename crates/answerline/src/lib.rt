@@ -53,7 +53,7 @@ fn put_pieces(out: &mut [u8], table: &[u32], pieces: usize)
 }
 
 // What stands after the number: "for 0 the piece count (2) and per piece ..; for 4 and 5 the task (1); for 7 the group (8, bit i for task i)
-// and its cores (2); otherwise nothing more". Hands back where the line ends.
+// and its cores (2); otherwise nothing more", and for 13 "task (1) and core (1)". Hands back where the line ends.
 fn put_rest(answer: Answer, pieces: usize, table: &[u32], out: &mut [u8]) -> usize
     requires { ⌜ Room (now table) pieces (now out) ⌝ }
     ensures { λ r. ⌜ (now (out .exit) ≡ pasted (now (out .entry)) 2 (answerRest answer (firstPieces (now (table .entry)) pieces))) × (r ≡ 2 + length (answerRest answer (firstPieces (now (table .entry)) pieces))) ⌝ }
@@ -64,7 +64,7 @@ fn put_rest(answer: Answer, pieces: usize, table: &[u32], out: &mut [u8]) -> usi
             put_pieces(out, table, pieces);
             6 + 20 * pieces
         }
-        Answer::Mask(task) => {
+        Answer::EmptyMask(task) => {
             put(out, 2, 1, task as u64);
             4
         }
@@ -76,6 +76,11 @@ fn put_rest(answer: Answer, pieces: usize, table: &[u32], out: &mut [u8]) -> usi
             put(out, 2, 8, group);
             put(out, 18, 2, cores as u64);
             22
+        }
+        Answer::MissingCore { task, core } => {
+            put(out, 2, 1, task as u64);
+            put(out, 4, 1, core as u64);
+            6
         }
         _ => 2,
     }

@@ -16,7 +16,7 @@ use Rattle.rules.specs.Line.{digitsAt, wellWritten, lineFrame, lineCores, lineB
 use Rattle.rules.specs.LineCall.{lentTable, LineAnswerAt, LineAnswer}
 use Rattle.rules.specs.declared.Answer.the-variants.{BadLine}
 use Rattle.rules.specs.declared.Planned.{Planned}
-use Rattle.tests.proofs.Cases.{tested-cases}
+use Rattle.tests.proofs.Cases.{numberTold, tested-cases}
 use Rattle.sums.proofs.Both.{or-left, or-right}
 use Rattle.answerline.proofs.Distinct.{number-back}
 
@@ -27,24 +27,18 @@ enough m bs ms c t =
     le-ltb 96 (length bs + 2 * m)
     (omega (arith, ltb-false 16 m (or-right (eqb m 0) (ltb 16 m) c), ltb-false 64 (length bs) (or-left (ltb 64 (length bs)) (not (eqb (length bs) (length ms))) t)))
 
-six : Tested → ℕ
-six (refused a) = numberOf a
-six passed = 0
-
 -- no way through the tests ends at 6
-tested-never-six : (F m : ℕ) (bs ms : List ℕ) → six (tested F m bs ms lentTable) ≡ 6 → ⊥
-unfolding six
+tested-never-six : (F m : ℕ) (bs ms : List ℕ) → numberTold (tested F m bs ms lentTable) ≡ 6 → ⊥
 tested-never-six F m bs ms e =
-    tested-cases F m bs ms lentTable (λ t. six t ≡ 6 → ⊥) (λ z. omega arith) (λ z. omega arith) (λ z. omega arith) (λ t k z. omega arith) (λ t b z. omega arith)
-    (λ c t s z. true≢false (sym s ∙ enough m bs ms c t)) (λ z. omega arith) e
+    tested-cases F m bs ms lentTable (λ t. numberTold t ≡ 6 → ⊥) (λ z. omega arith) (λ z. omega arith) (λ z. omega arith) (λ s e z. omega arith) (λ s e k z. omega arith)
+    (λ s g b z. omega arith) (λ s g short z. true≢false (sym short ∙ enough m bs ms (s .cores) (s .tasks))) (λ s g z. omega arith) e
 
 module _ (F m : ℕ) (bs ms : List ℕ) (r : Planned) (t : List ℕ) where
   decided-never-six : Decided F m bs ms lentTable r t → numberOf (r .answer) ≡ 6 → ⊥
   decided-never-six (planned x p) e = let z : _≡_ {A = ℕ} 0 6 = sym (ap numberOf (p .answer)) ∙ e in omega arith
   decided-never-six (overloaded g o) e = let z : _≡_ {A = ℕ} 7 6 = sym (ap numberOf (o .refusal .answer)) ∙ e in omega arith
 
-  answer-never-six : (w : Tested) → (six w ≡ 6 → ⊥) → PlanAnswerAt w F m bs ms lentTable r t → numberOf (r .answer) ≡ 6 → ⊥
-  unfolding six
+  answer-never-six : (w : Tested) → (numberTold w ≡ 6 → ⊥) → PlanAnswerAt w F m bs ms lentTable r t → numberOf (r .answer) ≡ 6 → ⊥
   answer-never-six (refused a) h p e = h (sym (ap numberOf (p .answer)) ∙ e)
   answer-never-six passed h p e = decided-never-six p e
 

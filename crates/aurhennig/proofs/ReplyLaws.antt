@@ -15,7 +15,7 @@ use Rattle.rules.specs.Check.{checkAnswer, movesAnswer}
 use Rattle.rules.specs.Reply.{replyOf}
 use Rattle.rules.specs.Replies.{checkReply, movesReply}
 use Rattle.rules.specs.declared.Answer.{Answer}
-use Rattle.rules.specs.declared.Answer.the-variants.{Accepted, FrameLength, CoreCount, TaskCount, Mask, Budget, ShortTable, Overloaded, NotTable, JobList, NoUnits, ShortFinishes, BadLine}
+use Rattle.rules.specs.declared.Answer.the-variants.{Accepted, FrameLength, CoreCount, TaskCount, EmptyMask, Budget, ShortTable, Overloaded, NotTable, JobList, NoUnits, ShortFinishes, BadLine, MissingCore}
 use Rattle.rules.specs.declared.Counted.{Counted}
 use Rattle.rules.specs.declared.Reply.{Reply}
 
@@ -25,7 +25,7 @@ first-none Accepted k = refl
 first-none FrameLength k = refl
 first-none CoreCount k = refl
 first-none TaskCount k = refl
-first-none (Mask task) k = absurd (miss (0 ∷ 1 ∷ 2 ∷ 3 ∷ 6 ∷ 8 ∷ 11 ∷ 12 ∷ []) 4 tt k)
+first-none (EmptyMask task) k = absurd (miss (0 ∷ 1 ∷ 2 ∷ 3 ∷ 6 ∷ 8 ∷ 11 ∷ 12 ∷ []) 4 tt k)
 first-none (Budget task) k = absurd (miss (0 ∷ 1 ∷ 2 ∷ 3 ∷ 6 ∷ 8 ∷ 11 ∷ 12 ∷ []) 5 tt k)
 first-none ShortTable k = refl
 first-none (Overloaded group cores) k = absurd (miss (0 ∷ 1 ∷ 2 ∷ 3 ∷ 6 ∷ 8 ∷ 11 ∷ 12 ∷ []) 7 tt k)
@@ -34,14 +34,15 @@ first-none (JobList job) k = absurd (miss (0 ∷ 1 ∷ 2 ∷ 3 ∷ 6 ∷ 8 ∷ 1
 first-none (NoUnits job) k = absurd (miss (0 ∷ 1 ∷ 2 ∷ 3 ∷ 6 ∷ 8 ∷ 11 ∷ 12 ∷ []) 10 tt k)
 first-none ShortFinishes k = refl
 first-none BadLine k = refl
+first-none (MissingCore task core) k = absurd (miss (0 ∷ 1 ∷ 2 ∷ 3 ∷ 6 ∷ 8 ∷ 11 ∷ 12 ∷ []) 13 tt k)
 
--- an answer that carries no cores
+-- an answer that carries no core
 pub second-none : (a : Answer) → OneOf (0 ∷ 1 ∷ 2 ∷ 3 ∷ 4 ∷ 5 ∷ 6 ∷ 8 ∷ 9 ∷ 10 ∷ 11 ∷ 12 ∷ []) (tagOf the-type a) → 0 ≡ getD (valuesOf a) 1 0
 second-none Accepted k = refl
 second-none FrameLength k = refl
 second-none CoreCount k = refl
 second-none TaskCount k = refl
-second-none (Mask task) k = refl
+second-none (EmptyMask task) k = refl
 second-none (Budget task) k = refl
 second-none ShortTable k = refl
 second-none (Overloaded group cores) k = absurd (miss (0 ∷ 1 ∷ 2 ∷ 3 ∷ 4 ∷ 5 ∷ 6 ∷ 8 ∷ 9 ∷ 10 ∷ 11 ∷ 12 ∷ []) 7 tt k)
@@ -50,6 +51,7 @@ second-none (JobList job) k = refl
 second-none (NoUnits job) k = refl
 second-none ShortFinishes k = refl
 second-none BadLine k = refl
+second-none (MissingCore task core) k = absurd (miss (0 ∷ 1 ∷ 2 ∷ 3 ∷ 4 ∷ 5 ∷ 6 ∷ 8 ∷ 9 ∷ 10 ∷ 11 ∷ 12 ∷ []) 13 tt k)
 
 module _ (a : Answer) (count n f s : ℕ) (number : n ≡ numberOf a) (first : f ≡ getD (valuesOf a) 0 0) (second : s ≡ getD (valuesOf a) 1 0) where
   counted : (c : ℕ) → c ≡ cond (eqb (numberOf a) 0) count 0 → _≡_ {A = Reply} (record { number = n; first = f; second = s; count = c }) (replyOf a count)

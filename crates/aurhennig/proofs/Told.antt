@@ -9,14 +9,14 @@ use native.Mathlib.Nat.{lt-of-lt-of-le}
 use native.Mathlib.Omega.{arith}
 use borrow.Author.Tests.{ltb-true, ltb-false, leb-true, eqb-true, not-false}
 use lib.Dec.{eqb, leb, ltb}
-use lib.ListN.{length}
+use lib.ListN.{length, getD}
 use lib.Pow.{pow-mono}
 use Rattle.rules.specs.Sum.{firstAt}
 use Rattle.rules.specs.Sets.{union}
 use Rattle.rules.specs.Answer.{numberOf}
 use Rattle.rules.specs.Piece.{Piece, firstPieces}
 use Rattle.rules.specs.FrameTable.{every, everyTwo, sound, ordered, coreApart, taskApart, framePieces}
-use Rattle.rules.specs.Tests.{Tested, refused, passed, tested, badTasks, badMask, badBudget}
+use Rattle.rules.specs.Tests.{Tested, refused, passed, tested, badTasks, emptyMask, missingTask, missingCore, lowestMissing, badBudget}
 use Rattle.rules.specs.Plan.{at, Refusal, Decided, planned, overloaded, PlanAnswer, PlanAnswerAt}
 use Rattle.rules.specs.Line.{answerLine}
 use Rattle.rules.specs.declared.Answer.{Answer}
@@ -25,10 +25,12 @@ use Rattle.rules.specs.declared.Planned.{Planned}
 use Rattle.rules.proofs.Numbers.{length-first}
 use Rattle.rules.proofs.Replies.{number-zero}
 use Rattle.sums.proofs.Both.{and-left, and-right, or-left, or-right}
+use Rattle.sums.proofs.Lowest.{lowest-le}
 use Rattle.sums.proofs.Sets.{union-lt}
 use Rattle.stretches.proofs.Readings.{Sound, sound-reads}
 use Rattle.tests.specs.Given.{Admitted}
 use Rattle.tests.proofs.Cases.{tested-cases}
+use Rattle.tests.proofs.MaskLaws.{missing}
 use Rattle.tests.proofs.PassedLaws.{passed-ready}
 use Rattle.answerline.specs.Shown.{PieceFits, PiecesFit, Shown}
 use Rattle.answerline.proofs.Distinct.{no-two-answers-share-a-line, no-two-tables-share-a-line}
@@ -51,12 +53,16 @@ module _ (F m : ℕ) (budgets masks before : List ℕ) where
   unfolding badTasks
   paired e = omega (arith, tasks e, eqb-true (length budgets) (length masks) (not-false _ (or-right (ltb 64 (length budgets)) (not (eqb (length budgets) (length masks))) e)))
 
+  core-low : missingCore m masks < 2 ^ 8
+  unfolding lowestMissing
+  core-low = omega (arith, lowest-le 16 (missing m (getD masks (missingTask m masks) 0)))
+
   refused-fits : (a : Answer) → tested F m budgets masks before ≡ refused a → Shown a []
   unfolding Fits
   refused-fits a e =
       subst Fits e
-      (tested-cases F m budgets masks before Fits tt tt tt (λ t k. low (length masks) (firstAt (badMask m) masks) (paired t) k)
-      (λ t b. low (length budgets) (firstAt (badBudget F) budgets) (tasks t) b) (λ c t s. tt) tt)
+      (tested-cases F m budgets masks before Fits tt tt tt (λ z e. low (length masks) (firstAt emptyMask masks) (paired (z .tasks)) e)
+      (λ z e k. (low (length masks) (missingTask m masks) (paired (z .tasks)) k, core-low)) (λ z g b. low (length budgets) (firstAt (badBudget F) budgets) (tasks (z .tasks)) b) (λ z g s. tt) (λ z g. tt))
 
 -- the pieces of a frame table fit their fields
 module _ (F m : ℕ) (frame : F ≤ 1000000) (cores : m ≤ 16) where

@@ -11,21 +11,23 @@ fn first_of(answer: Answer) -> u64
     ensures { λ r. ⌜ r ≡ getD (valuesOf answer) 0 0 ⌝ }
 {
     match answer {
-        Answer::Mask(task) => task as u64,
+        Answer::EmptyMask(task) => task as u64,
         Answer::Budget(task) => task as u64,
         Answer::Overloaded { group, cores: _ } => group,
         Answer::JobList(job) => job as u64,
         Answer::NoUnits(job) => job as u64,
+        Answer::MissingCore { task, core: _ } => task as u64,
         _ => 0,
     }
 }
 
-// The second: the cores of a group.
+// The second: the cores of a group, or a missing core.
 fn second_of(answer: Answer) -> u64
     ensures { λ r. ⌜ r ≡ getD (valuesOf answer) 1 0 ⌝ }
 {
     match answer {
         Answer::Overloaded { group: _, cores } => cores as u64,
+        Answer::MissingCore { task: _, core } => core as u64,
         _ => 0,
     }
 }

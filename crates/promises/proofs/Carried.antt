@@ -7,24 +7,24 @@ use Prim.Native.Nat.{ℕ}
 use lib.Dec.{eqb}
 use Rattle.rules.specs.Sum.{firstAt}
 use Rattle.rules.specs.Answer.{numberOf, valuesOf}
-use Rattle.rules.specs.Tests.{Tested, refused, passed, tested, badMask, badBudget, planCarries}
+use Rattle.rules.specs.Tests.{Tested, refused, passed, tested, emptyMask, missingTask, missingCore, badBudget, planCarries}
 use Rattle.rules.specs.Plan.{Decided, planned, overloaded, PlanAnswer, PlanAnswerAt}
 use Rattle.rules.specs.declared.Answer.{Answer}
 use Rattle.rules.specs.declared.Planned.{Planned}
 use Rattle.tests.proofs.Cases.{tested-cases}
 
--- what a number carries where 4 carries i and 5 carries j
-abbrev Carries : ℕ → ℕ → Tested → Type 0
-Carries i j (refused a) = valuesOf a ≡ cond (eqb (numberOf a) 4) (i ∷ []) (cond (eqb (numberOf a) 5) (j ∷ []) [])
-Carries i j passed = Unit {0}
+-- what a number carries where 4 carries i, 13 carries k and c, and 5 carries j
+abbrev Carries : ℕ → ℕ → ℕ → ℕ → Tested → Type 0
+Carries i k c j (refused a) = valuesOf a ≡ cond (eqb (numberOf a) 4) (i ∷ []) (cond (eqb (numberOf a) 13) (k ∷ c ∷ []) (cond (eqb (numberOf a) 5) (j ∷ []) []))
+Carries i k c j passed = Unit {0}
 
 module _ (F m : ℕ) (budgets masks before : List ℕ) where
   refused-carries : (a : Answer) → tested F m budgets masks before ≡ refused a → valuesOf a ≡ planCarries F m budgets masks (numberOf a)
   unfolding planCarries
-  refused-carries a e = subst carries e (tested-cases F m budgets masks before carries refl refl refl (λ t k. refl) (λ t b. refl) (λ c t s. refl) tt)
+  refused-carries a e = subst carries e (tested-cases F m budgets masks before carries refl refl refl (λ z e. refl) (λ z e k. refl) (λ z g b. refl) (λ z g s. refl) (λ z g. tt))
     where
       carries : Tested → Type 0
-      carries = Carries (firstAt (badMask m) masks) (firstAt (badBudget F) budgets)
+      carries = Carries (firstAt emptyMask masks) (missingTask m masks) (missingCore m masks) (firstAt (badBudget F) budgets)
 
   module _ (r : Planned) (after : List ℕ) where
     carries-as : (a : Answer) → r .answer ≡ a → valuesOf a ≡ planCarries F m budgets masks (numberOf a)

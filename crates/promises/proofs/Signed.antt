@@ -1,12 +1,13 @@
 -- Demand 2 as a customer signs it: what an answer that plan's contract allows says. Each statement starts from the contract alone.
 -- Assumes nothing.
 use mathlib.Core.Path.{_≡_, refl, sym, _∙_, ap, subst}
-use mathlib.Core.Bool.{true}
+use mathlib.Core.Bool.{true, false}
 use mathlib.Core.List.{List}
 use Prim.Native.Nat.{ℕ, _+_, _*_, _≤_}
 use native.Mathlib.Nat.{le-refl}
 use native.Mathlib.Omega.{arith}
-use borrow.Author.Tests.{le-ltb, ne-eqb}
+use borrow.Author.Tests.{le-ltb, ne-eqb, eqb-false}
+use lib.Dec.{eqb}
 use lib.ListN.{length, drop, length-append, length-drop}
 use Rattle.rules.specs.Sets.{union}
 use Rattle.rules.specs.Answer.{numberOf, valuesOf}
@@ -101,25 +102,29 @@ module _ (F m : ℕ) (budgets masks before : List ℕ) (pass : tested F m budget
   pub planned-within : (framePieces F m (firstPieces after (r .pieces)) ≡ true) × (F ≤ 1000000) × (m ≤ 16)
   planned-within = (ap (framePieces F m) stand ∙ obeys .table, d .given .frame, d .given .cores)
 
--- no test refuses with 0 or 7
+-- the number with which the tests refuse; 1 where they are passed, which is neither that of an accepted set nor of an overload
 by-tests : Tested → ℕ
 by-tests (refused a) = numberOf a
 by-tests passed = 1
 
 module _ (F m : ℕ) (budgets masks before : List ℕ) where
-  pub refused-by-tests : (a : Answer) → tested F m budgets masks before ≡ refused a → (1 ≤ numberOf a) × (numberOf a ≤ 6)
+  -- no test refuses with 0 or 7
+  pub refused-by-tests : (a : Answer) → tested F m budgets masks before ≡ refused a → (numberOf a ≡ 0 → ⊥) × (numberOf a ≡ 7 → ⊥)
   unfolding by-tests
   refused-by-tests a e =
-      subst within e
-      (tested-cases F m budgets masks before within (omega arith, omega arith) (omega arith, omega arith) (omega arith, omega arith) (λ t k. (omega arith, omega arith))
-      (λ t b. (omega arith, omega arith)) (λ c t s. (omega arith, omega arith)) (omega arith, omega arith))
+      subst neither e
+      (tested-cases F m budgets masks before neither (apart 1 refl refl) (apart 2 refl refl) (apart 3 refl refl) (λ z e. apart 4 refl refl)
+      (λ z e k. apart 13 refl refl) (λ z g b. apart 5 refl refl) (λ z g s. apart 6 refl refl) (λ z g. apart 1 refl refl))
     where
-      within : Tested → Type 0
-      within t = (1 ≤ by-tests t) × (by-tests t ≤ 6)
+      neither : Tested → Type 0
+      neither t = (by-tests t ≡ 0 → ⊥) × (by-tests t ≡ 7 → ⊥)
+
+      apart : (n : ℕ) → eqb n 0 ≡ false → eqb n 7 ≡ false → (n ≡ 0 → ⊥) × (n ≡ 7 → ⊥)
+      apart n p q = (eqb-false n 0 p, eqb-false n 7 q)
 
   module _ (r : Planned) (after : List ℕ) where
     not-by-tests : (a : Answer) → tested F m budgets masks before ≡ refused a → Refusal a before r after → r .answer ≡ Accepted → ⊥
-    not-by-tests a e h y = let z : numberOf a ≡ 0 = ap numberOf (sym (h .answer) ∙ y) in omega (arith, z, refused-by-tests a e .0)
+    not-by-tests a e h y = let z : numberOf a ≡ 0 = ap numberOf (sym (h .answer) ∙ y) in refused-by-tests a e .0 z
 
     differ : (g c : ℕ) → r .answer ≡ Overloaded g c → r .answer ≡ Accepted → ⊥
     differ g c p q = let z : _≡_ {A = ℕ} 7 0 = ap numberOf (sym p ∙ q) in omega (arith, z)

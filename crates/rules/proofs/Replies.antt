@@ -9,7 +9,7 @@ use Rattle.rules.specs.Reply.{replyOf}
 use Rattle.rules.specs.Walked.{walkTested}
 use Rattle.rules.specs.Replies.{checkReply, movesReply, WalkReply}
 use Rattle.rules.specs.declared.Answer.{Answer}
-use Rattle.rules.specs.declared.Answer.the-variants.{Accepted, FrameLength, CoreCount, TaskCount, Mask, Budget, ShortTable, Overloaded, NotTable, JobList, NoUnits, ShortFinishes, BadLine}
+use Rattle.rules.specs.declared.Answer.the-variants.{Accepted, FrameLength, CoreCount, TaskCount, EmptyMask, Budget, ShortTable, Overloaded, NotTable, JobList, NoUnits, ShortFinishes, BadLine, MissingCore}
 use Rattle.rules.specs.declared.Reply.{Reply}
 use Rattle.rules.proofs.Walked.{walked-unique}
 
@@ -17,7 +17,7 @@ use Rattle.rules.proofs.Walked.{walked-unique}
 answerOf : ℕ → ℕ → ℕ → Answer
 answerOf n f s =
     getD
-    (Accepted ∷ FrameLength ∷ CoreCount ∷ TaskCount ∷ Mask f ∷ Budget f ∷ ShortTable ∷ Overloaded f s ∷ NotTable ∷ JobList f ∷ NoUnits f ∷ ShortFinishes ∷ BadLine ∷ [])
+    (Accepted ∷ FrameLength ∷ CoreCount ∷ TaskCount ∷ EmptyMask f ∷ Budget f ∷ ShortTable ∷ Overloaded f s ∷ NotTable ∷ JobList f ∷ NoUnits f ∷ ShortFinishes ∷ BadLine ∷ MissingCore f s ∷ [])
     n
     Accepted
 
@@ -27,7 +27,7 @@ told Accepted = refl
 told FrameLength = refl
 told CoreCount = refl
 told TaskCount = refl
-told (Mask task) = refl
+told (EmptyMask task) = refl
 told (Budget task) = refl
 told ShortTable = refl
 told (Overloaded group cores) = refl
@@ -36,6 +36,7 @@ told (JobList job) = refl
 told (NoUnits job) = refl
 told ShortFinishes = refl
 told BadLine = refl
+told (MissingCore task core) = refl
 
 -- 0 is the number of no refusal
 pub number-zero : (a : Answer) → numberOf a ≡ 0 → a ≡ Accepted

@@ -17,6 +17,7 @@ pub mod Layout
 pub mod Table
 pub mod Tests
 pub mod Plan
+pub mod MaskFaults
 pub mod Check
 pub mod Signed
 pub mod Jobs

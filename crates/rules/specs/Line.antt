@@ -87,9 +87,10 @@ pieceLines [] = []
 pieceLines (p ∷ ps) = pieceLine p ++ pieceLines ps
 
 -- how many bytes each value takes that the answer of this number carries (`valuesOf`): "for 4 and 5 the task (1); for 7 the group (8, bit i for
--- task i) and its cores (2); otherwise nothing more"
+-- task i) and its cores (2); otherwise nothing more"; document 02, (ii): "its line has task (1) and core (1)"
 unfoldable pub lineWidths : ℕ → List ℕ
-lineWidths number = cond (eqb number 4) (1 ∷ []) (cond (eqb number 5) (1 ∷ []) (cond (eqb number 7) (8 ∷ 2 ∷ []) []))
+lineWidths number =
+    cond (eqb number 4) (1 ∷ []) (cond (eqb number 5) (1 ∷ []) (cond (eqb number 7) (8 ∷ 2 ∷ []) (cond (eqb number 13) (1 ∷ 1 ∷ []) [])))
 
 -- values one after another, each as so many bytes as its width says; a value without a width is not written
 unfoldable pub valuesLine : List ℕ → List ℕ → List ℕ

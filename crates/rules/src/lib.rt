@@ -4,13 +4,13 @@ ghost use mathlib.Core.Path.{_≡_};
 ghost use Rattle.rules.specs.Answer.{numberOf};
 
 // "one of accepted, refused, refused with a place, or overloaded with its group": the cases carry nothing,
-// a task or job number, or a task set with its cores. A table or a list of finishes stands beside the answer.
+// a task or job number, a task with a core, or a task set with its cores. A table or a list of finishes stands beside the answer.
 pub enum Answer {
     Accepted,
     FrameLength,
     CoreCount,
     TaskCount,
-    Mask(usize),
+    EmptyMask(usize),
     Budget(usize),
     ShortTable,
     Overloaded { group: u64, cores: u16 },
@@ -19,6 +19,14 @@ pub enum Answer {
     NoUnits(usize),
     ShortFinishes,
     BadLine,
+    MissingCore { task: usize, core: u32 },
+}
+
+// What the test of one mask says: it is good, it is empty, or it names a missing core, the lowest such.
+pub enum MaskTest {
+    Good,
+    Empty,
+    Missing(u32),
 }
 
 // The planner's answer with the number of pieces that it wrote: 0 for every refusal.
@@ -42,7 +50,7 @@ pub struct Reply {
     pub count: u64,
 }
 
-// Document 01's number of an answer.
+// An answer's number, as documents 01 and 02 have it.
 pub fn number(a: Answer) -> u8
     ensures { λ r. ⌜ r ≡ numberOf a ⌝ }
 {
@@ -51,7 +59,7 @@ pub fn number(a: Answer) -> u8
         Answer::FrameLength => 1,
         Answer::CoreCount => 2,
         Answer::TaskCount => 3,
-        Answer::Mask(_) => 4,
+        Answer::EmptyMask(_) => 4,
         Answer::Budget(_) => 5,
         Answer::ShortTable => 6,
         Answer::Overloaded { group: _, cores: _ } => 7,
@@ -60,5 +68,6 @@ pub fn number(a: Answer) -> u8
         Answer::NoUnits(_) => 10,
         Answer::ShortFinishes => 11,
         Answer::BadLine => 12,
+        Answer::MissingCore { task: _, core: _ } => 13,
     }
 }

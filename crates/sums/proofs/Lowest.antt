@@ -23,6 +23,19 @@ miss-low : (n : ℕ) (f : ℕ → ℕ) → n ≤ lowest n f → f n ≡ 0 → lo
 unfolding lowest
 miss-low n f g z = rw (le-ltb (lowest n f) n g, lowest, z, lowest)
 
+pub lowest-le : (n : ℕ) (f : ℕ → ℕ) → lowest n f ≤ n
+unfolding lowest
+lowest-le zero f = omega arith
+lowest-le (suc n) f =
+    elim (decLt (lowest n f) n) [
+      | yes l ↦ omega (arith, keep-low n f l)
+      | no g ↦
+          elim (decLt 0 (f n)) [
+            | yes s ↦ omega (arith, hit-low n f (omega arith) s)
+            | no z ↦ omega (arith, miss-low n f (omega arith) (zero-of z))
+          ]
+    ]
+
 -- f is not 0 there
 pub lowest-hit : (n : ℕ) (f : ℕ → ℕ) → lowest n f < n → 0 < f (lowest n f)
 lowest-hit zero f h = absurd (not-suc-le-zero h)
@@ -53,6 +66,20 @@ lowest-none (suc n) f h i l =
           ]
     ]
 
+-- below it f is 0
+pub lowest-before : (n : ℕ) (f : ℕ → ℕ) (i : ℕ) → i < lowest n f → f i ≡ 0
+unfolding lowest
+lowest-before zero f i h = absurd (not-suc-le-zero h)
+lowest-before (suc n) f i h =
+    elim (decLt (lowest n f) n) [
+      | yes l ↦ lowest-before n f i (omega (arith, h, keep-low n f l))
+      | no g ↦
+          elim (decLt 0 (f n)) [
+            | yes s ↦ lowest-before n f i (omega (arith, h, hit-low n f (omega arith) s))
+            | no z ↦ lowest-none (suc n) f (omega (arith, miss-low n f (omega arith) (zero-of z))) i (omega (arith, h, miss-low n f (omega arith) (zero-of z)))
+          ]
+    ]
+
 pub lowest-same : (n : ℕ) (f g : ℕ → ℕ) → ((i : ℕ) → i < n → f i ≡ g i) → lowest n f ≡ lowest n g
 unfolding lowest
 lowest-same zero f g h = refl
@@ -75,6 +102,11 @@ module _ (f : ℕ → ℕ) where
 
   pub lowest-more : (j : ℕ) → lowest j f ≡ j → f j ≡ 0 → lowest (j + 1) f ≡ j + 1
   lowest-more j e z = rw (add-one j) (miss-low j f (omega arith) z)
+
+  -- nothing below j
+  pub lowest-past : (j : ℕ) → ((i : ℕ) → i < j → f i ≡ 0) → lowest j f ≡ j
+  lowest-past zero h = lowest-begin
+  lowest-past (suc j) h = let e = lowest-past j (λ i l. h i (omega arith)) in miss-low j f (omega arith) (h j (omega arith))
 
   lowest-stays : (n j : ℕ) → j ≤ n → lowest j f < j → lowest n f ≡ lowest j f
   lowest-stays zero j l h = absurd (omega arith)

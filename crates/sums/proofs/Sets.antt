@@ -121,6 +121,14 @@ has-ext (suc n) a b ha hb h =
     join : a % 2 ≡ b % 2 → a / 2 ≡ b / 2 → a ≡ b
     join p q = omega arith
 
+-- a number without bits from m on is below 2^m
+pub below-of-bits : (w m s : ℕ) → s < 2 ^ w → ((j : ℕ) → m ≤ j → has s j ≡ 0) → s < 2 ^ m
+below-of-bits w zero s l h = omega (arith, has-ext w s 0 l (pow-pos w) (λ i k. h i (omega arith) ∙ sym (has-none i)))
+below-of-bits w (suc m) s l h = half-below s m (below-of-bits w m (s / 2) (omega arith) (λ j k. sym (has-next s j) ∙ h (suc j) (omega arith)))
+  where
+    half-below : (s m : ℕ) → s / 2 < 2 ^ m → s < 2 ^ suc m
+    half-below s m l = omega arith
+
 -- ---- the union of the masks of a group
 
 has-times : (g n m j : ℕ) → has (has g n * m) j ≡ has g n * has m j

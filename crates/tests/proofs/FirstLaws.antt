@@ -1,17 +1,16 @@
 -- The laws by which a loop seeks the first place where a test passes.
 -- Assumes nothing.
 use mathlib.Core.Path.{_≡_, refl, sym, _∙_, ap}
-use mathlib.Core.Bool.{Bool, true, false, not}
+use mathlib.Core.Bool.{Bool, true, false}
 use mathlib.Core.List.{List, [], _∷_}
-use Prim.Native.Nat.{ℕ, suc, _+_, _/_, _^_, _≤_, _<_}
+use Prim.Native.Nat.{ℕ, zero, suc, _+_, _≤_, _<_}
 use native.Mathlib.Numerals.{add-one}
 use native.Mathlib.Omega.{arith}
-use borrow.Author.Tests.{eq-eqb, ne-eqb, lt-ltb, le-ltb}
-use lib.Dec.{eqb}
+use borrow.Author.Tests.{lt-ltb, le-ltb}
 use lib.ListN.{length, getD, drop, drop-of-length-le}
 use lib.Seq.{drop-cons}
 use Rattle.rules.specs.Sum.{firstAt}
-use Rattle.rules.specs.Tests.{badMask, badBudget}
+use Rattle.rules.specs.Tests.{badBudget}
 
 module _ (p : ℕ → Bool) where
   pub first-cons-hit : (a : ℕ) (l : List ℕ) → p a ≡ true → firstAt p (a ∷ l) ≡ 0
@@ -52,14 +51,6 @@ module _ (p : ℕ → Bool) (s : List ℕ) (i : ℕ) (b : Bool) (h : NoneBefore 
   pub first-more-by : b ≡ false → NoneBefore p s (i + 1)
   first-more-by f = first-more p s i h l (sym e ∙ f)
 
-pub mask-empty : (m mask : ℕ) → mask ≡ 0 → true ≡ badMask m mask
-unfolding badMask
-mask-empty m mask e = rw (eq-eqb mask 0 e)
-
-pub mask-shifted : (m mask : ℕ) → (mask ≡ 0 → ⊥) → not (eqb (mask / 2 ^ m) 0) ≡ badMask m mask
-unfolding badMask
-mask-shifted m mask ne = rw (ne-eqb mask 0 ne)
-
 pub budget-above : (F budget : ℕ) → F < budget → badBudget F budget ≡ true
 unfolding badBudget
 budget-above F budget h = lt-ltb F budget h
@@ -67,3 +58,35 @@ budget-above F budget h = lt-ltb F budget h
 pub budget-within : (F budget : ℕ) → budget ≤ F → badBudget F budget ≡ false
 unfolding badBudget
 budget-within F budget h = le-ltb F budget h
+
+-- the first place is one where the test passes, nothing before it does, and no other place is so
+module _ (p : ℕ → Bool) where
+  nowhere : {i : ℕ} → i < 0 → ⊥
+  nowhere l = omega arith
+
+  pub first-passes : (s : List ℕ) → firstAt p s < length s → p (getD s (firstAt p s) 0) ≡ true
+  first-passes [] l = absurd (nowhere l)
+  first-passes (a ∷ s) l = by (p a) refl (first-passes s)
+    where
+      by : (b : Bool) → p a ≡ b → (firstAt p s < length s → p (getD s (firstAt p s) 0) ≡ true) → p (getD (a ∷ s) (firstAt p (a ∷ s)) 0) ≡ true
+      by true e later = rw (first-cons-hit p a s e) e
+      by false e later = rw (first-cons-miss p a s e) (later (omega (arith, l, first-cons-miss p a s e)))
+
+  pub first-before : (s : List ℕ) (k : ℕ) → k < firstAt p s → p (getD s k 0) ≡ false
+  first-before [] k l = absurd (nowhere (rw (first-nil p) at l))
+  first-before (a ∷ s) k l = by (p a) refl k l (first-before s)
+    where
+      by : (b : Bool) → p a ≡ b → (k : ℕ) → k < firstAt p (a ∷ s) → ((j : ℕ) → j < firstAt p s → p (getD s j 0) ≡ false) → p (getD (a ∷ s) k 0) ≡ false
+      by true e k l later = absurd (nowhere (rw (first-cons-hit p a s e) at l))
+      by false e zero l later = e
+      by false e (suc k) l later = later k (omega (arith, l, first-cons-miss p a s e))
+
+  pub first-is : (s : List ℕ) (i : ℕ) → i < length s → p (getD s i 0) ≡ true → ((k : ℕ) → k < i → p (getD s k 0) ≡ false) → firstAt p s ≡ i
+  first-is [] i l e h = absurd (nowhere l)
+  first-is (a ∷ s) zero l e h = first-cons-hit p a s e
+  first-is (a ∷ s) (suc i) l e h =
+      first-cons-miss p a s (h 0 (omega arith)) ∙ ap suc (first-is s i (omega arith) e (λ k g. h (suc k) (omega arith)))
+
+  pub first-nowhere : (s : List ℕ) → ((k : ℕ) → k < length s → p (getD s k 0) ≡ false) → length s ≤ firstAt p s
+  first-nowhere [] h = omega arith
+  first-nowhere (a ∷ s) h = omega (arith, first-nowhere s (λ k l. h (suc k) (omega arith)), first-cons-miss p a s (h 0 (omega arith)))

@@ -1,4 +1,4 @@
--- What is known of a set that passed the tests 1 to 6.
+-- What is known of a set that passed the tests.
 -- Assumes nothing.
 use mathlib.Core.Path.{_≡_, refl, sym, subst}
 use mathlib.Core.Bool.{Bool, true, false, cond, not}
@@ -13,14 +13,14 @@ use lib.Pow.{split, pow-pos}
 use Rattle.rules.specs.Sum.{firstAt}
 use Rattle.rules.specs.Piece.{wholePieces}
 use Rattle.rules.specs.Plan.{at}
-use Rattle.rules.specs.Tests.{Tested, refused, passed, badFrame, badCores, badTasks, badMask, badBudget, shortTable, testedSet, thenRoom, tested}
+use Rattle.rules.specs.Tests.{Tested, refused, passed, badFrame, badCores, badTasks, emptyMask, pastCores, missingTask, missingCore, badBudget, shortTable, testedSet, thenRoom, tested}
 use Rattle.rules.specs.declared.Answer.{Answer}
-use Rattle.rules.specs.declared.Answer.the-variants.{FrameLength, CoreCount, TaskCount, Mask, Budget, ShortTable}
+use Rattle.rules.specs.declared.Answer.the-variants.{FrameLength, CoreCount, TaskCount, EmptyMask, Budget, ShortTable, MissingCore}
 use Rattle.sums.proofs.Both.{or-left, or-right}
 use Rattle.tests.specs.Given.{Given, Admitted}
 use Rattle.tests.proofs.FirstLaws.{first-cons-hit, first-cons-miss}
 
-never : (a : Answer) → refused a ≡ passed → ⊥
+pub never : (a : Answer) → refused a ≡ passed → ⊥
 never a e = let z : _≡_ {A = ℕ} 0 1 = cc in omega arith
 
 -- a test that was passed, and what comes after it
@@ -48,25 +48,28 @@ pub none-at : (p : ℕ → Bool) (s : List ℕ) → ltb (firstAt p s) (length s)
 none-at p s e i l = none-from p s (ltb-false _ _ e) i l
 
 -- a mask that shifted right by m leaves nothing
-pub narrow-mask : (m mask : ℕ) → badMask m mask ≡ false → mask < 2 ^ m
-unfolding badMask
-narrow-mask m mask e = below (eqb-true _ _ (not-false _ (or-right (eqb mask 0) (not (eqb (mask / 2 ^ m) 0)) e)))
+pub narrow-mask : (m mask : ℕ) → pastCores m mask ≡ false → mask < 2 ^ m
+unfolding pastCores
+narrow-mask m mask e = below (eqb-true _ _ (not-false _ e))
   where
     below : mask / 2 ^ m ≡ 0 → mask < 2 ^ m
     below z = omega (arith, subst (λ (q : ℕ). q * 2 ^ m + mask % 2 ^ m ≡ mask) z (split mask m), mod-lt mask (pow-pos m))
 
 module _ (F m : ℕ) (budgets masks : List ℕ) (e : testedSet F m budgets masks ≡ passed) where
-  abbrev maskPlace : ℕ
-  maskPlace = firstAt (badMask m) masks
+  abbrev emptyPlace : ℕ
+  emptyPlace = firstAt emptyMask masks
 
   abbrev budgetPlace : ℕ
   budgetPlace = firstAt (badBudget F) budgets
 
+  abbrev after13 : Tested
+  after13 = cond (ltb budgetPlace (length budgets)) (refused (Budget budgetPlace)) passed
+
   abbrev after4 : Tested
-  after4 = cond (ltb budgetPlace (length budgets)) (refused (Budget budgetPlace)) passed
+  after4 = cond (ltb (missingTask m masks) (length masks)) (refused (MissingCore (missingTask m masks) (missingCore m masks))) after13
 
   abbrev after3 : Tested
-  after3 = cond (ltb maskPlace (length masks)) (refused (Mask maskPlace)) after4
+  after3 = cond (ltb emptyPlace (length masks)) (refused (EmptyMask emptyPlace)) after4
 
   abbrev after2 : Tested
   after2 = cond (badTasks budgets masks) (refused TaskCount) after3
@@ -84,11 +87,14 @@ module _ (F m : ℕ) (budgets masks : List ℕ) (e : testedSet F m budgets masks
   third : (badTasks budgets masks ≡ false) × (after3 ≡ passed)
   third = passes (badTasks budgets masks) TaskCount after3 (second .1)
 
-  fourth : (ltb maskPlace (length masks) ≡ false) × (after4 ≡ passed)
-  fourth = passes (ltb maskPlace (length masks)) (Mask maskPlace) after4 (third .1)
+  fourth : (ltb emptyPlace (length masks) ≡ false) × (after4 ≡ passed)
+  fourth = passes (ltb emptyPlace (length masks)) (EmptyMask emptyPlace) after4 (third .1)
+
+  thirteenth : (ltb (missingTask m masks) (length masks) ≡ false) × (after13 ≡ passed)
+  thirteenth = passes (ltb (missingTask m masks) (length masks)) (MissingCore (missingTask m masks) (missingCore m masks)) after13 (fourth .1)
 
   fifth : ltb budgetPlace (length budgets) ≡ false
-  fifth = passes (ltb budgetPlace (length budgets)) (Budget budgetPlace) passed (fourth .1) .0
+  fifth = passes (ltb budgetPlace (length budgets)) (Budget budgetPlace) passed (thirteenth .1) .0
 
   paired : length masks ≡ length budgets
   unfolding badTasks
@@ -107,7 +113,7 @@ module _ (F m : ℕ) (budgets masks : List ℕ) (e : testedSet F m budgets masks
         cores = ltb-false _ _ (or-right (eqb m 0) (ltb 16 m) (second .0));
         tasks = ltb-false _ _ (or-left (ltb 64 (length budgets)) (not (eqb (length budgets) (length masks))) (third .0));
         paired = paired;
-        narrow = λ i l. narrow-mask m (at masks i) (none-at (badMask m) masks (fourth .0) i (subst (λ (k : ℕ). i < k) (sym paired) l));
+        narrow = λ i l. narrow-mask m (at masks i) (none-at (pastCores m) masks (thirteenth .0) i (subst (λ (k : ℕ). i < k) (sym paired) l));
         small = λ i l. ltb-false F (at budgets i) (none-at (badBudget F) budgets fifth i l);
       }
 

@@ -6,8 +6,8 @@ use mathlib.Core.List.{List}
 use lib.Dec.{ltb}
 use lib.ListN.{length}
 use Rattle.rules.specs.Sum.{firstAt}
-use Rattle.rules.specs.Tests.{Tested, refused, passed, badMask, badBudget}
-use Rattle.rules.specs.declared.Answer.the-variants.{Mask, Budget}
+use Rattle.rules.specs.Tests.{Tested, refused, passed, emptyMask, missingTask, missingCore, badBudget}
+use Rattle.rules.specs.declared.Answer.the-variants.{EmptyMask, Budget, MissingCore}
 use Rattle.tests.specs.declared.Verdict.{Verdict}
 use Rattle.tests.specs.declared.Verdict.the-variants.{Refused, Passed}
 
@@ -15,8 +15,15 @@ abbrev pub verdictOf : Verdict → Tested
 verdictOf (Refused a) = refused a
 verdictOf Passed = passed
 
--- the tests 4 and 5, the last two of `testedSet`
-unfoldable pub testedTasks : ℕ → ℕ → List ℕ → List ℕ → Tested
-testedTasks F m budgets masks =
-    cond (ltb (firstAt (badMask m) masks) (length masks)) (refused (Mask (firstAt (badMask m) masks)))
-    (cond (ltb (firstAt (badBudget F) budgets) (length budgets)) (refused (Budget (firstAt (badBudget F) budgets))) passed)
+-- the tests 4, 13 and 5, the last three of `testedSet`, each with what the tests after it say
+unfoldable pub testedEmpty : List ℕ → Tested → Tested
+testedEmpty masks next = cond (ltb (firstAt emptyMask masks) (length masks)) (refused (EmptyMask (firstAt emptyMask masks))) next
+
+unfoldable pub testedMissing : ℕ → List ℕ → Tested → Tested
+testedMissing m masks next = cond (ltb (missingTask m masks) (length masks)) (refused (MissingCore (missingTask m masks) (missingCore m masks))) next
+
+unfoldable pub testedBudgets : ℕ → List ℕ → Tested
+testedBudgets F budgets = cond (ltb (firstAt (badBudget F) budgets) (length budgets)) (refused (Budget (firstAt (badBudget F) budgets))) passed
+
+abbrev pub testedTasks : ℕ → ℕ → List ℕ → List ℕ → Tested
+testedTasks F m budgets masks = testedEmpty masks (testedMissing m masks (testedBudgets F budgets))

@@ -1,36 +1,78 @@
-// The tests 1 to 6 of document 01, in their order, each over all tasks before the next.
+// The tests 1, 2, 3, 4, 13, 5, 6 of documents 01 and 02, in this order, each over all tasks before the next.
 use rules::Answer;
+use rules::MaskTest;
 ghost use mathlib.Core.Path.{_≡_};
 ghost use Prim.Native.Nat.{_+_, _/_, _≤_, _<_};
 ghost use Rattle.rules.specs.Sum.{firstAt};
 ghost use Rattle.rules.specs.Piece.{wholePieces};
-ghost use Rattle.rules.specs.Tests.{badMask, badBudget, shortTable, passed, testedSet, thenRoom, tested};
-ghost use Rattle.tests.specs.Verdict.{verdictOf, testedTasks};
+ghost use Rattle.rules.specs.Tests.{lowestMissing, maskTested, badBudget, shortTable, passed, testedSet, thenRoom, tested};
+ghost use Rattle.tests.specs.Verdict.{verdictOf, testedEmpty, testedMissing, testedTasks};
 
-// Whether a mask is empty or has a bit at or above the number of cores.
-fn bad_mask(mask: u16, cores: u32) -> bool
+// The lowest core of a mask at or above the number of cores; 16 where there is none.
+fn lowest_missing(mask: u16, cores: u32) -> u32
     requires { ⌜ cores ≤ 16 ⌝ }
-    ensures { λ r. ⌜ r ≡ badMask cores mask ⌝ }
+    ensures { λ r. ⌜ r ≡ lowestMissing cores mask ⌝ }
 {
-    if mask == 0 {
-        return true;
+    let mut core = cores;
+    while core < 16 {
+        if (mask >> core) & 1 == 1 {
+            return core;
+        }
+        core += 1;
     }
-    (mask as u32) >> cores != 0
+    core
 }
 
-// The lowest task with a bad mask; the number of tasks where there is none.
-fn first_bad_mask(masks: &[u16], cores: u32) -> usize
+// Looks at one mask: "Keep 4 for the empty mask. A mask that names a missing core gets a number of its own, and carries .. the lowest such core."
+fn test_mask(mask: u16, cores: u32) -> MaskTest
     requires { ⌜ cores ≤ 16 ⌝ }
-    ensures { λ r. ⌜ r ≡ firstAt (badMask cores) (now (masks .entry)) ⌝ }
+    ensures { λ r. ⌜ r ≡ maskTested cores mask ⌝ }
+{
+    if mask == 0 {
+        return MaskTest::Empty;
+    }
+    if (mask as u32) >> cores == 0 {
+        return MaskTest::Good;
+    }
+    MaskTest::Missing(lowest_missing(mask, cores))
+}
+
+// What tests say.
+pub enum Verdict {
+    Refused(Answer),
+    Passed,
+}
+
+// The test 4 over all tasks: the lowest with an empty mask.
+fn test_empty(masks: &[u16], cores: u32) -> Verdict
+    requires { ⌜ cores ≤ 16 ⌝ }
+    ensures { λ r. ⌜ verdictOf r ≡ testedEmpty (now (masks .entry)) passed ⌝ }
 {
     let mut i: usize = 0;
     while i < masks.len() {
-        if bad_mask(masks[i], cores) {
-            return i;
+        let mask = test_mask(masks[i], cores);
+        if let MaskTest::Empty = mask {
+            return Verdict::Refused(Answer::EmptyMask(i));
         }
         i += 1;
     }
-    i
+    Verdict::Passed
+}
+
+// The test 13 over all tasks: the lowest whose mask names a missing core, with the lowest such core.
+fn test_missing(masks: &[u16], cores: u32) -> Verdict
+    requires { ⌜ cores ≤ 16 ⌝ }
+    ensures { λ r. ⌜ verdictOf r ≡ testedMissing cores (now (masks .entry)) passed ⌝ }
+{
+    let mut i: usize = 0;
+    while i < masks.len() {
+        let mask = test_mask(masks[i], cores);
+        if let MaskTest::Missing(core) = mask {
+            return Verdict::Refused(Answer::MissingCore { task: i, core });
+        }
+        i += 1;
+    }
+    Verdict::Passed
 }
 
 // The lowest task with a budget above the frame; the number of tasks where there is none.
@@ -47,20 +89,18 @@ fn first_bad_budget(budgets: &[u32], frame: u32) -> usize
     i
 }
 
-// What tests say.
-pub enum Verdict {
-    Refused(Answer),
-    Passed,
-}
-
-// The tests 4 and 5.
+// The tests 4, 13 and 5.
 fn test_tasks(frame: u32, cores: u32, budgets: &[u32], masks: &[u16]) -> Verdict
     requires { ⌜ cores ≤ 16 ⌝ }
     ensures { λ r. ⌜ verdictOf r ≡ testedTasks frame cores (now (budgets .entry)) (now (masks .entry)) ⌝ }
 {
-    let mask = first_bad_mask(masks, cores);
-    if mask < masks.len() {
-        return Verdict::Refused(Answer::Mask(mask));
+    let empty = test_empty(masks, cores);
+    if let Verdict::Refused(answer) = empty {
+        return Verdict::Refused(answer);
+    }
+    let missing = test_missing(masks, cores);
+    if let Verdict::Refused(answer) = missing {
+        return Verdict::Refused(answer);
     }
     let budget = first_bad_budget(budgets, frame);
     if budget < budgets.len() {

@@ -1,6 +1,6 @@
 -- `answerline::put_rest` meets its contract. Each arm is given which answer it is; the arms that write nothing are one.
 -- Assumes nothing.
-use Rattle.answerline.proofs.AnswerLaws.{rest-accepted, rest-mask, rest-budget, rest-overloaded, rest-other}
+use Rattle.answerline.proofs.AnswerLaws.{rest-accepted, rest-empty, rest-budget, rest-overloaded, rest-missing, rest-other}
 use borrow.Author.Needs.{needs}
 use Rattle.answerline.proofs.put_rest.Statement.{statement}
 use Rattle.answerline.proofs.put_rest.Tie as tie
@@ -44,6 +44,18 @@ cast-put c = search needs
 put-requires-5 : tie.Need-put-requires-5
 put-requires-5 c κs = search needs
 
+enum-known-answer-4 : tie.Need-enum-known-answer-4
+enum-known-answer-4 c = search needs
+
+put-requires-6 : tie.Need-put-requires-6
+put-requires-6 c κs = search needs
+
+cast-put-2 : tie.Need-cast-put-2
+cast-put-2 c = search needs
+
+put-requires-7 : tie.Need-put-requires-7
+put-requires-7 c κs = search needs
+
 same-length : tie.Need-same-length
 same-length c = search needs
 
@@ -61,7 +73,7 @@ same-length-2 c = search needs
 returns-2 : tie.Need-returns-2
 returns-2 c =
     let field = c .before .before in
-    rest-mask _ _ _ _ _ (field .before .before .before .answer .given .1) (field .put2 .ensures)
+    rest-empty _ _ _ _ _ (field .before .before .before .answer .given .1) (field .put2 .ensures)
 
 same-length-3 : tie.Need-same-length-3
 same-length-3 c = search needs
@@ -82,8 +94,19 @@ returns-4 c =
     let start = told .before .before .before .before in
     rest-overloaded _ _ _ _ _ _ _ (told .answer3 .given .1) (start .pre .output) (group .put4 .ensures) (cores .put5 .ensures)
 
+same-length-5 : tie.Need-same-length-5
+same-length-5 c = search needs
+
 returns-5 : tie.Need-returns-5
-returns-5 c = rest-other _ _ _ (c .match .keys5)
+returns-5 c =
+    let core = c .before .before in
+    let task = core .before .before .before .before in
+    let told = task .before .before .before in
+    let start = told .before .before .before .before in
+    rest-missing _ _ _ _ _ _ _ (told .answer4 .given .1) (start .pre .output) (task .put6 .ensures) (core .put7 .ensures)
+
+returns-6 : tie.Need-returns-6
+returns-6 c = rest-other _ _ _ (c .match .keys6)
 
 pub put-rest-spec : {M : Type 1} → statement M
 put-rest-spec =
@@ -102,6 +125,10 @@ put-rest-spec =
     put-requires-4
     cast-put
     put-requires-5
+    enum-known-answer-4
+    put-requires-6
+    cast-put-2
+    put-requires-7
     same-length
     returns
     same-length-2
@@ -110,4 +137,6 @@ put-rest-spec =
     returns-3
     same-length-4
     returns-4
-    returns-5)
+    same-length-5
+    returns-5
+    returns-6)

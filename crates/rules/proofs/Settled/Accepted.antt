@@ -12,14 +12,14 @@ use Rattle.rules.specs.Piece.{numbersOf}
 use Rattle.rules.specs.Moves.{insert}
 use Rattle.rules.specs.Layout.{ahead, begun, stretch, reachOne, reach, meetMark, meetOne, meet, visitMark, visit, waiting, unvisited, nextCore, visits, layout}
 use Rattle.rules.specs.Table.{row, cells, cellAt, cut, insertAll, piecesOn, coreTo, coresTo, tableOfCells, tableOf}
-use Rattle.rules.specs.Tests.{testedSet, badFrame, badCores, badTasks, badMask, badBudget, tested}
+use Rattle.rules.specs.Tests.{testedSet, badFrame, badCores, badTasks, emptyMask, pastCores, badBudget, tested}
 use Rattle.rules.specs.Settled.{OnlyAllocation, Only, tableP1}
 use Rattle.rules.specs.declared.Answer.the-variants.{Accepted}
 use Rattle.rules.proofs.Computed.{insideTest, exactTest, withinTest, allocation-computed, oneTest, loop-free-computed, fitTest, no-group-computed}
 use Rattle.rules.proofs.Settled.Sets.{Alloc, Passes, accepted-only}
 
 pass1 : Passes 6 2 (4 ∷ 3 ∷ 5 ∷ []) (0b11 ∷ 0b01 ∷ 0b10 ∷ [])
-unfolding tested testedSet badFrame badCores badTasks badMask badBudget firstAt
+unfolding tested testedSet badFrame badCores badTasks emptyMask pastCores badBudget firstAt
 pass1 before roomy = rw roomy
 
 cells1 : (x : ℕ → ℕ → ℕ) → Alloc 6 2 (4 ∷ 3 ∷ 5 ∷ []) (0b11 ∷ 0b01 ∷ 0b10 ∷ []) x → cells 3 2 x ≡ 3 ∷ 1 ∷ 3 ∷ 0 ∷ 0 ∷ 5 ∷ []
@@ -53,7 +53,7 @@ p1 =
     (allocation1 .some) (allocation1 .loop-free)
 
 pass5 : Passes 10 1 (5 ∷ 5 ∷ []) (0b1 ∷ 0b1 ∷ [])
-unfolding tested testedSet badFrame badCores badTasks badMask badBudget firstAt
+unfolding tested testedSet badFrame badCores badTasks emptyMask pastCores badBudget firstAt
 pass5 before roomy = rw roomy
 
 cells5 : (x : ℕ → ℕ → ℕ) → Alloc 10 1 (5 ∷ 5 ∷ []) (0b1 ∷ 0b1 ∷ []) x → cells 2 1 x ≡ 5 ∷ 5 ∷ []
@@ -76,7 +76,7 @@ p5 =
     (allocation-computed 2 1 _ _ _ _ tt tt tt) (loop-free-computed 2 1 0 _ tt)
 
 pass7 : Passes 10 2 (5 ∷ 10 ∷ []) (0b11 ∷ 0b01 ∷ [])
-unfolding tested testedSet badFrame badCores badTasks badMask badBudget firstAt
+unfolding tested testedSet badFrame badCores badTasks emptyMask pastCores badBudget firstAt
 pass7 before roomy = rw roomy
 
 cells7 : (x : ℕ → ℕ → ℕ) → Alloc 10 2 (5 ∷ 10 ∷ []) (0b11 ∷ 0b01 ∷ []) x → cells 2 2 x ≡ 0 ∷ 5 ∷ 10 ∷ 0 ∷ []
@@ -102,7 +102,7 @@ p7 =
     (allocation-computed 2 2 _ _ _ _ tt tt tt) (loop-free-computed 2 2 0 _ tt)
 
 pass8 : Passes 10 1 (0 ∷ []) (0b1 ∷ [])
-unfolding tested testedSet badFrame badCores badTasks badMask badBudget firstAt
+unfolding tested testedSet badFrame badCores badTasks emptyMask pastCores badBudget firstAt
 pass8 before roomy = rw roomy
 
 cells8 : (x : ℕ → ℕ → ℕ) → Alloc 10 1 (0 ∷ []) (0b1 ∷ []) x → cells 1 1 x ≡ 0 ∷ []

@@ -13,7 +13,7 @@ use Rattle.rules.specs.Allocation.{limitOf}
 use Rattle.rules.specs.Sum.{sumTo, firstAt}
 use Rattle.rules.specs.Sets.{has, union}
 use Rattle.rules.specs.Excess.{groupBudget, capacity, groupCapacity, Exceeds, Smallest}
-use Rattle.rules.specs.Tests.{testedSet, badFrame, badCores, badTasks, badMask, badBudget, tested}
+use Rattle.rules.specs.Tests.{testedSet, badFrame, badCores, badTasks, emptyMask, pastCores, badBudget, tested}
 use Rattle.rules.specs.Plan.{at}
 use Rattle.rules.specs.Settled.{OnlyGroups, Holds, overloads, excess, total, refuses}
 use Rattle.rules.specs.declared.Answer.the-variants.{Budget}
@@ -54,7 +54,7 @@ module _ (F m : ℕ) (budgets masks : List ℕ) (e : ℕ) (groups : List ℕ) wh
       )
 
 pass2 : Passes 10 2 (8 ∷ 8 ∷ 3 ∷ []) (0b01 ∷ 0b01 ∷ 0b10 ∷ [])
-unfolding tested testedSet badFrame badCores badTasks badMask badBudget firstAt
+unfolding tested testedSet badFrame badCores badTasks emptyMask pastCores badBudget firstAt
 pass2 before roomy = rw roomy
 
 none2 : (x : ℕ → ℕ → ℕ) → Alloc 10 2 (8 ∷ 8 ∷ 3 ∷ []) (0b01 ∷ 0b01 ∷ 0b10 ∷ []) x → ⊥
@@ -80,7 +80,7 @@ unfolding sumTo
 total2 = (refl, refl, lit< tt)
 
 pass3 : Passes 10 2 (6 ∷ 6 ∷ 10 ∷ []) (0b01 ∷ 0b01 ∷ 0b10 ∷ [])
-unfolding tested testedSet badFrame badCores badTasks badMask badBudget firstAt
+unfolding tested testedSet badFrame badCores badTasks emptyMask pastCores badBudget firstAt
 pass3 before roomy = rw roomy
 
 none3 : (x : ℕ → ℕ → ℕ) → Alloc 10 2 (6 ∷ 6 ∷ 10 ∷ []) (0b01 ∷ 0b01 ∷ 0b10 ∷ []) x → ⊥
@@ -106,7 +106,7 @@ unfolding sumTo firstAt has union groupBudget capacity groupCapacity eachTest ot
 groups3 = groups-computed 10 2 (6 ∷ 6 ∷ 10 ∷ []) (0b01 ∷ 0b01 ∷ 0b10 ∷ []) 2 (0b011 ∷ 0b111 ∷ []) tt tt
 
 pass6 : Passes 10 1 (5 ∷ 6 ∷ []) (0b1 ∷ 0b1 ∷ [])
-unfolding tested testedSet badFrame badCores badTasks badMask badBudget firstAt
+unfolding tested testedSet badFrame badCores badTasks emptyMask pastCores badBudget firstAt
 pass6 before roomy = rw roomy
 
 none6 : (x : ℕ → ℕ → ℕ) → Alloc 10 1 (5 ∷ 6 ∷ []) (0b1 ∷ 0b1 ∷ []) x → ⊥
@@ -126,5 +126,5 @@ unfolding sumTo has union groupBudget capacity groupCapacity Exceeds sameTest
 p6 = (overloaded-only 10 1 (5 ∷ 6 ∷ []) (0b1 ∷ 0b1 ∷ []) 0b11 0b1 pass6 none6 smallest6 (lit< tt) refl (same-computed 2 0b11 tt), smallest6, refl, refl)
 
 pub p4 : Holds (refuses 10 2 (11 ∷ []) (0b11 ∷ []) (Budget 0) 5 (0 ∷ []))
-unfolding tested testedSet badFrame badCores badTasks badMask badBudget firstAt
+unfolding tested testedSet badFrame badCores badTasks emptyMask pastCores badBudget firstAt
 p4 = (refused-only 10 2 (11 ∷ []) (0b11 ∷ []) (Budget 0) (λ before. refl), refl, refl)

@@ -6,18 +6,21 @@ use Prim.Native.Nat.{ℕ, zero, suc, _+_, _*_, _≤_, _<_}
 use native.Mathlib.Omega.{arith}
 use lib.Dec.{lit<, lit≤}
 use Rattle.rules.specs.Sum.{firstAt, lowest}
-use Rattle.rules.specs.Tests.{badMask, badBudget, planCarries}
+use Rattle.rules.specs.Sets.{has}
+use Rattle.rules.specs.Tests.{emptyMask, pastCores, lowestMissing, badBudget, planCarries}
 use Rattle.rules.specs.Jobs.{badJobCount, early, badJob, firstBadJob, firstAsking}
 use Rattle.rules.specs.Walked.{walkCarries}
 use Rattle.rules.specs.Line.{lineWidths}
 use Rattle.rules.specs.Paced.{Paced, Bounded}
 use Rattle.rules.specs.Plan.{at}
 
--- F 9, m 2: task 1 has a bad mask, task 0 a budget above F; only 4 and 5 carry a task
+-- F 9, m 2: task 2 has an empty mask, task 1 one with core 3, task 0 a budget above F; only 4, 13 and 5 carry a task
 plan-carries :
-    planCarries 9 2 (10 ∷ 1 ∷ []) (1 ∷ 4 ∷ []) 4 ∷ planCarries 9 2 (10 ∷ 1 ∷ []) (1 ∷ 4 ∷ []) 5 ∷ planCarries 9 2 (10 ∷ 1 ∷ []) (1 ∷ 4 ∷ []) 3 ∷
-    planCarries 9 2 (10 ∷ 1 ∷ []) (1 ∷ 4 ∷ []) 6 ∷ [] ≡ (1 ∷ []) ∷ (0 ∷ []) ∷ [] ∷ [] ∷ []
-unfolding planCarries badMask badBudget firstAt
+    planCarries 9 2 (10 ∷ 1 ∷ 1 ∷ []) (1 ∷ 9 ∷ 0 ∷ []) 4 ∷ planCarries 9 2 (10 ∷ 1 ∷ 1 ∷ []) (1 ∷ 9 ∷ 0 ∷ []) 13 ∷
+    planCarries 9 2 (10 ∷ 1 ∷ 1 ∷ []) (1 ∷ 9 ∷ 0 ∷ []) 5 ∷ planCarries 9 2 (10 ∷ 1 ∷ 1 ∷ []) (1 ∷ 9 ∷ 0 ∷ []) 3 ∷
+    planCarries 9 2 (10 ∷ 1 ∷ 1 ∷ []) (1 ∷ 9 ∷ 0 ∷ []) 6 ∷ planCarries 9 2 (10 ∷ 1 ∷ 1 ∷ []) (1 ∷ 9 ∷ 0 ∷ []) 12 ∷ [] ≡
+    (2 ∷ []) ∷ (1 ∷ 3 ∷ []) ∷ (0 ∷ []) ∷ [] ∷ [] ∷ [] ∷ []
+unfolding planCarries emptyMask pastCores lowestMissing lowest has badBudget firstAt
 plan-carries = refl
 
 -- job 2 is released too early, job 1 asks units; only 9 and 10 carry a job
@@ -32,8 +35,10 @@ unlike-lists : walkCarries (5 ∷ 7 ∷ 6 ∷ []) (0 ∷ 1 ∷ []) 9 ≡ 0 ∷ [
 unfolding walkCarries badJobCount firstBadJob badJob early lowest
 unlike-lists = refl
 
--- the widths on a line of what 3 to 8 carry
-line-widths : lineWidths 3 ∷ lineWidths 4 ∷ lineWidths 5 ∷ lineWidths 6 ∷ lineWidths 7 ∷ lineWidths 8 ∷ [] ≡ [] ∷ (1 ∷ []) ∷ (1 ∷ []) ∷ [] ∷ (8 ∷ 2 ∷ []) ∷ [] ∷ []
+-- the widths on a line of what 3 to 8 and 12 to 14 carry
+line-widths :
+    lineWidths 3 ∷ lineWidths 4 ∷ lineWidths 5 ∷ lineWidths 6 ∷ lineWidths 7 ∷ lineWidths 8 ∷ lineWidths 12 ∷ lineWidths 13 ∷ lineWidths 14 ∷ [] ≡
+    [] ∷ (1 ∷ []) ∷ (1 ∷ []) ∷ [] ∷ (8 ∷ 2 ∷ []) ∷ [] ∷ [] ∷ (1 ∷ 1 ∷ []) ∷ [] ∷ []
 unfolding lineWidths
 line-widths = refl
 

@@ -8,7 +8,7 @@ use lib.ListN.{replicate}
 use Rattle.rules.specs.Sizes.{maxPieces, maxDigits, leastOutput}
 use Rattle.rules.specs.Piece.{Piece}
 use Rattle.rules.specs.Line.{isDecimal, isLetter, isDigit, digitValue, digitOf, digitsAt, field, digits, bytes, taskFields, allDigits, wellWritten, lineFrame, lineCores, lineTasks, lineBudgets, lineMasks, pieceLine, pieceLines, lineWidths, valuesLine, answerRest, answerLine}
-use Rattle.rules.specs.declared.Answer.the-variants.{Accepted, FrameLength, CoreCount, TaskCount, Mask, Budget, ShortTable, Overloaded, NotTable, JobList, NoUnits, ShortFinishes, BadLine}
+use Rattle.rules.specs.declared.Answer.the-variants.{Accepted, FrameLength, CoreCount, TaskCount, EmptyMask, Budget, ShortTable, Overloaded, NotTable, JobList, NoUnits, ShortFinishes, BadLine, MissingCore}
 
 abbrev piece : ℕ → ℕ → ℕ → ℕ → Piece
 piece core task start len = record { core = core; task = task; start = start; len = len }
@@ -100,10 +100,10 @@ accepted-lines :
 unfolding answerLine lineWidths valuesLine answerRest pieceLine pieceLines digits digitOf
 accepted-lines = refl
 
--- "for 4 and 5 the task (1); for 7 the group (8, bit i for task i) and its cores (2)"; a refusal shows no pieces
+-- "for 4 and 5 the task (1); for 7 the group (8, bit i for task i) and its cores (2)"; "its line has task (1) and core (1)"; a refusal shows no pieces
 carried-lines :
-    answerLine (Mask 0x3f) (piece 1 2 3 4 ∷ []) ∷ answerLine (Budget 0x05) (piece 1 2 3 4 ∷ []) ∷ answerLine (Overloaded 0x102 0x304) (piece 1 2 3 4 ∷ []) ∷ [] ≡
-    digits 4 0x043f ∷ digits 4 0x0505 ∷ digits 22 0x0700000000000001020304 ∷ []
+    answerLine (EmptyMask 0x3f) (piece 1 2 3 4 ∷ []) ∷ answerLine (Budget 0x05) (piece 1 2 3 4 ∷ []) ∷ answerLine (Overloaded 0x102 0x304) (piece 1 2 3 4 ∷ []) ∷
+    answerLine (MissingCore 0x3e 0x0f) (piece 1 2 3 4 ∷ []) ∷ [] ≡ digits 4 0x043f ∷ digits 4 0x0505 ∷ digits 22 0x0700000000000001020304 ∷ digits 6 0x0d3e0f ∷ []
 unfolding answerLine lineWidths valuesLine answerRest pieceLine pieceLines digits digitOf
 carried-lines = refl
 

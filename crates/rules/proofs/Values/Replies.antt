@@ -12,7 +12,7 @@ use Rattle.rules.specs.Tests.{badFrame, badCores}
 use Rattle.rules.specs.Check.{checkAnswer, movesAnswer}
 use Rattle.rules.specs.Settled.{Roomy, Only, OnlyFinishes, tableP1}
 use Rattle.rules.specs.declared.Answer.{Answer}
-use Rattle.rules.specs.declared.Answer.the-variants.{Accepted, FrameLength, CoreCount, TaskCount, Mask, Budget, ShortTable, Overloaded, NotTable, JobList, NoUnits, ShortFinishes, BadLine}
+use Rattle.rules.specs.declared.Answer.the-variants.{Accepted, FrameLength, CoreCount, TaskCount, EmptyMask, Budget, ShortTable, Overloaded, NotTable, JobList, NoUnits, ShortFinishes, BadLine, MissingCore}
 use Rattle.rules.specs.declared.Counted.{Counted}
 use Rattle.rules.specs.declared.Planned.{Planned}
 use Rattle.rules.specs.declared.Reply.{Reply}
@@ -30,9 +30,10 @@ bare-replies : replyOf Accepted 5 ∷ replyOf FrameLength 5 ∷ replyOf CoreCoun
 unfolding replyOf
 bare-replies = refl
 
--- a task or a job is the first value, a group the first and its cores the second
-carrying-replies : replyOf (Mask 63) 5 ∷ replyOf (Budget 62) 5 ∷ replyOf (Overloaded 5 3) 5 ∷ replyOf (JobList 4095) 5 ∷ replyOf (NoUnits 4094) 5 ∷ [] ≡
-    four 4 63 0 0 ∷ four 5 62 0 0 ∷ four 7 5 3 0 ∷ four 9 4095 0 0 ∷ four 10 4094 0 0 ∷ []
+-- a task or a job is the first value; a group is the first and its cores the second; so are a task and its missing core
+carrying-replies :
+    replyOf (EmptyMask 63) 5 ∷ replyOf (Budget 62) 5 ∷ replyOf (Overloaded 5 3) 5 ∷ replyOf (JobList 4095) 5 ∷ replyOf (NoUnits 4094) 5 ∷ replyOf (MissingCore 61 15) 5 ∷ [] ≡
+    four 4 63 0 0 ∷ four 5 62 0 0 ∷ four 7 5 3 0 ∷ four 9 4095 0 0 ∷ four 10 4094 0 0 ∷ four 13 61 15 0 ∷ []
 unfolding replyOf
 carrying-replies = refl
 

@@ -20,6 +20,9 @@ enum-known-answer-4 c = search needs
 enum-known-answer-5 : tie.Need-enum-known-answer-5
 enum-known-answer-5 c = search needs
 
+enum-known-answer-6 : tie.Need-enum-known-answer-6
+enum-known-answer-6 c = search needs
+
 returns : tie.Need-returns
 returns c = search needs
 
@@ -36,7 +39,10 @@ returns-5 : tie.Need-returns-5
 returns-5 c = search needs
 
 returns-6 : tie.Need-returns-6
-returns-6 c = first-none (c .before .args .answer) (c .match .keys6)
+returns-6 c = search needs
+
+returns-7 : tie.Need-returns-7
+returns-7 c = first-none (c .before .args .answer) (c .match .keys7)
 
 pub first-of-spec : {M : Type 1} → statement M
 first-of-spec =
@@ -47,9 +53,11 @@ first-of-spec =
     enum-known-answer-3
     enum-known-answer-4
     enum-known-answer-5
+    enum-known-answer-6
     returns
     returns-2
     returns-3
     returns-4
     returns-5
-    returns-6)
+    returns-6
+    returns-7)

@@ -1,5 +1,5 @@
 /* A small executive, made to start from: it plans a set of named models, prints what each core runs, and tells when one model's jobs finish. Then it
- * plans a set that does not fit, and says why. Exit code 0 only if both go as they should.
+ * plans a set that does not fit and one made for a larger rack, and says why. Exit code 0 only if all go as they should.
  *
  *   make install && cc -o executive examples/executive.c $(PKG_CONFIG_PATH=target/install/lib/pkgconfig pkg-config --cflags --libs aurhennig)
  */
@@ -27,12 +27,12 @@ struct set {
     size_t count;
 };
 
-/* What to do about each refusal; an overload is told by the names. */
+/* What to do about each refusal; an overload and a missing core are told by their values. */
 static const char *const advice[] = {
     [AURHENNIG_FRAME_LENGTH] = "give the frame 1 to 1,000,000 units",
     [AURHENNIG_CORE_COUNT] = "plan 1 to 16 cores in one table",
     [AURHENNIG_TASK_COUNT] = "plan at most 64 models in one table",
-    [AURHENNIG_MASK] = "its mask is empty or names a core that the rack lacks: correct it",
+    [AURHENNIG_EMPTY_MASK] = "its mask is empty: give it a core",
     [AURHENNIG_BUDGET] = "its budget is above the frame: lower it, or lengthen the frame",
     [AURHENNIG_SHORT_TABLE] = "lend the planner AURHENNIG_TABLE_LEN numbers",
     [AURHENNIG_NOT_TABLE] = "this is not a frame table: plan the set again, and hand on its pieces alone with the same frame and cores",
@@ -95,11 +95,20 @@ static void print_overload(const struct set *set, uint64_t group, uint64_t cores
     printf("}: they ask %" PRIu64 " units of %" PRIu64 ", %" PRIu64 " too many\n", asked, room, asked - room);
 }
 
+static void print_missing_core(const struct set *set, uint64_t task, uint64_t core)
+{
+    printf("  refused: %s: its mask names core %" PRIu64 ", and the rack's last core is %" PRIu32 ": take core %" PRIu64
+           " out of the mask, or plan a larger rack\n",
+           set->models[task].name, core, set->cores - 1, core);
+}
+
 static void print_refusal(const struct set *set, aurhennig_reply reply)
 {
     if (reply.number == AURHENNIG_OVERLOADED)
         print_overload(set, reply.first, reply.second);
-    else if (reply.number == AURHENNIG_MASK || reply.number == AURHENNIG_BUDGET)
+    else if (reply.number == AURHENNIG_MISSING_CORE)
+        print_missing_core(set, reply.first, reply.second);
+    else if (reply.number == AURHENNIG_EMPTY_MASK || reply.number == AURHENNIG_BUDGET)
         printf("  refused: %s: %s\n", set->models[reply.first].name, advice[reply.number]);
     else if (reply.number == AURHENNIG_JOB_LIST || reply.number == AURHENNIG_NO_UNITS)
         printf("  refused: job %" PRIu64 ": %s\n", reply.first, advice[reply.number]);
@@ -159,8 +168,10 @@ int main(void)
 {
     static const struct model sky[] = {{"stars", 4, CORE(0) | CORE(1)}, {"noise", 3, CORE(0)}, {"optics", 5, CORE(1)}};
     static const struct model crowded[] = {{"tracker", 8, CORE(0)}, {"camera", 8, CORE(0)}, {"noise", 3, CORE(1)}};
-    const struct set fits = {6, 2, sky, COUNT(sky)}, overloaded = {10, 2, crowded, COUNT(crowded)};
+    static const struct model large[] = {{"stars", 4, CORE(0) | CORE(1)}, {"relay", 3, CORE(1) | CORE(5)}};
+    const struct set fits = {6, 2, sky, COUNT(sky)}, overloaded = {10, 2, crowded, COUNT(crowded)}, larger = {10, 2, large, COUNT(large)};
     int good = run(&fits, AURHENNIG_ACCEPTED);
     good = run(&overloaded, AURHENNIG_OVERLOADED) && good;
+    good = run(&larger, AURHENNIG_MISSING_CORE) && good;
     return good ? 0 : 1;
 }

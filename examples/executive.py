@@ -1,7 +1,7 @@
 """A small executive over the shared library, by ctypes: the same as examples/executive.c, for scripts to start from.
 
-It plans a set of named models, prints what each core runs, and tells when one model's jobs finish. Then it plans a set that does not fit, and
-says why. Exit code 0 only if both go as they should.
+It plans a set of named models, prints what each core runs, and tells when one model's jobs finish. Then it plans a set that does not fit and
+one made for a larger rack, and says why. Exit code 0 only if all go as they should.
 
     make install && python3 examples/executive.py [LIBRARY]      LIBRARY is target/install/lib/libaurhennig.so if it is missing
 
@@ -17,16 +17,17 @@ from typing import NamedTuple
 LIBRARY = os.path.join(os.path.dirname(os.path.dirname(os.path.abspath(__file__))), "target/install/lib/libaurhennig.so")
 
 # Of include/aurhennig.h, which says what each call reads, writes and keeps.
-ACCEPTED, FRAME_LENGTH, CORE_COUNT, TASK_COUNT, MASK, BUDGET, SHORT_TABLE, OVERLOADED, NOT_TABLE, JOB_LIST, NO_UNITS, SHORT_FINISHES = range(12)
+ACCEPTED, FRAME_LENGTH, CORE_COUNT, TASK_COUNT, EMPTY_MASK, BUDGET, SHORT_TABLE, OVERLOADED, NOT_TABLE, JOB_LIST, NO_UNITS, SHORT_FINISHES = range(12)
+MISSING_CORE = 13
 PIECE_LEN = 4
 TABLE_LEN = 380
 
-# What to do about each refusal; an overload is told by the names.
+# What to do about each refusal; an overload and a missing core are told by their values.
 ADVICE = {
     FRAME_LENGTH: "give the frame 1 to 1,000,000 units",
     CORE_COUNT: "plan 1 to 16 cores in one table",
     TASK_COUNT: "plan at most 64 models in one table",
-    MASK: "its mask is empty or names a core that the rack lacks: correct it",
+    EMPTY_MASK: "its mask is empty: give it a core",
     BUDGET: "its budget is above the frame: lower it, or lengthen the frame",
     SHORT_TABLE: "lend the planner 380 numbers",
     NOT_TABLE: "this is not a frame table: plan the set again, and hand on its pieces alone with the same frame and cores",
@@ -104,10 +105,17 @@ def print_overload(given, group, cores):
     print(f"  overload: {names} do not fit on cores {{{places}}}: they ask {asked} units of {room}, {asked - room} too many")
 
 
+def print_missing_core(given, task, core):
+    what = f"its mask names core {core}, and the rack's last core is {given.cores - 1}"
+    print(f"  refused: {given.models[task].name}: {what}: take core {core} out of the mask, or plan a larger rack")
+
+
 def print_refusal(given, reply):
     if reply.number == OVERLOADED:
         print_overload(given, reply.first, reply.second)
-    elif reply.number in (MASK, BUDGET):
+    elif reply.number == MISSING_CORE:
+        print_missing_core(given, reply.first, reply.second)
+    elif reply.number in (EMPTY_MASK, BUDGET):
         print(f"  refused: {given.models[reply.first].name}: {ADVICE[reply.number]}")
     elif reply.number in (JOB_LIST, NO_UNITS):
         print(f"  refused: job {reply.first}: {ADVICE[reply.number]}")
@@ -165,8 +173,9 @@ def main():
         sys.exit(f"executive.py: {error}: run make install, or give the library's path; on a machine that is not x86-64, use scripts/x86-64 python")
     fits = Set(6, 2, [Model("stars", 4, {0, 1}), Model("noise", 3, {0}), Model("optics", 5, {1})])
     overloaded = Set(10, 2, [Model("tracker", 8, {0}), Model("camera", 8, {0}), Model("noise", 3, {1})])
+    larger = Set(10, 2, [Model("stars", 4, {0, 1}), Model("relay", 3, {1, 5})])
     try:
-        good = [run(library, fits, ACCEPTED), run(library, overloaded, OVERLOADED)]
+        good = [run(library, fits, ACCEPTED), run(library, overloaded, OVERLOADED), run(library, larger, MISSING_CORE)]
     except OverflowError as error:
         sys.exit(f"executive.py: {error}")
     return 0 if all(good) else 1

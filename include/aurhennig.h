@@ -73,7 +73,7 @@ extern "C" {
 #define AURHENNIG_FRAME_LENGTH    1  /*  01   P C M W L                   the frame is 0 or above 1,000,000 */
 #define AURHENNIG_CORE_COUNT      2  /*  02   P C M W L                   the core count is 0 or above 16 */
 #define AURHENNIG_TASK_COUNT      3  /*  03   P . . . L                   there are more than 64 tasks, or (P alone) budgets and masks differ in number */
-#define AURHENNIG_MASK            4  /*  04   P . . . L  task             some mask is empty or has a bit at or above the core count; the lowest such task */
+#define AURHENNIG_EMPTY_MASK      4  /*  04   P . . . L  task             some mask is empty; the lowest such task */
 #define AURHENNIG_BUDGET          5  /*  05   P . . . L  task             some budget is above the frame; the lowest such task */
 #define AURHENNIG_SHORT_TABLE     6  /*  06   P . . . L                   the lent table holds fewer than n + 2 * cores - 1 whole pieces, n being the task
                                       *                                   count; L: the output is below 1,906 bytes, which is told by handing back 0 */
@@ -86,6 +86,8 @@ extern "C" {
 #define AURHENNIG_NO_UNITS       10  /*  0a   . . . W .  job              the walked task has no units in the table and a job asks units; the first such job */
 #define AURHENNIG_SHORT_FINISHES 11  /*  0b   . . . W .                   the lent finish list is shorter than the job list */
 #define AURHENNIG_BAD_LINE       12  /*  0c   . . . . L                   the line is not well written (see aurhennig_plan_line) */
+#define AURHENNIG_MISSING_CORE   13  /*  0d   P . . . L  task    core     some mask has a bit at or above the core count; the lowest such task, and the
+                                      *                                   lowest such core of its mask */
 
 /* What a call on arrays hands back. */
 typedef struct {
@@ -104,7 +106,7 @@ typedef struct {
  * table[4 * count] on keep what they held. In every frame each task gets exactly its budget, on cores of its mask only, and never runs on two cores
  * at once. Hand on the first 4 * count numbers alone, with the same frame and cores.
  *
- * Tests, in this order, each over all tasks before the next: 1, 2, 3, 4, 5, 6, 7. A refusal leaves `table` as it was.
+ * Tests, in this order, each over all tasks before the next: 1, 2, 3, 4, 13, 5, 6, 7. A refusal leaves `table` as it was.
  *
  * Overload (7): the excess of a group of tasks is the sum of its budgets, less frame * the number of cores in the union of its masks. A set that
  * passes the other tests is overloaded exactly if some group has an excess above 0, and that is exactly if no table exists for it. Carried is the
@@ -164,6 +166,7 @@ aurhennig_reply aurhennig_walk(uint32_t frame, uint32_t cores, const uint32_t *t
  *   00        the piece count (2 bytes), and for each piece its core (1), task (1), start (4) and length (4)
  *   04, 05    the task (1)
  *   07        the group (8, bit i for task i) and its cores (2, bit j for core j)
+ *   0d        the task (1) and the core (1)
  *   others    nothing more
  *
  * A line is not well written (0c) if it has a byte other than `0` to `9` and `a` to `f`, an odd number of digits, fewer than 12 digits or more than
@@ -173,12 +176,13 @@ aurhennig_reply aurhennig_walk(uint32_t frame, uint32_t cores, const uint32_t *t
  * nothing, whatever the line is: this is its 6, and no line says 06. Any other call hands back at least 2: every other refusal has its line. Any bytes
  * may stand at `input`, and any number of them.
  *
- * Tests, in this order: 6 by output_len, 12, then 1, 2, 3, 4, 5, 7; the set is planned as by aurhennig_plan.
+ * Tests, in this order: 6 by output_len, 12, then 1, 2, 3, 4, 13, 5, 7; the set is planned as by aurhennig_plan.
  *
  * Examples: 000000060203000000040003000000030001000000050002
  *        -> 0000050000000000000000000300010000000300000003010200000000000000030100000000030000000101020000000400000002
  *           0000000a0203000000080001000000080001000000030002 -> 0700000000000000030001
  *           0000000a0101000000000001 -> 000000
+ *           0000000a0202000000010001000000010004 -> 0d0102
  */
 size_t aurhennig_plan_line(const uint8_t *input, size_t input_len, uint8_t *output, size_t output_len);
 

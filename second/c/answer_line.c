@@ -21,6 +21,9 @@ uint8_t *put_plan_answer(uint8_t *line, aurhennig_reply reply, const uint32_t *t
     case 7:
         line = put_field(line, reply.first, 8);
         return put_field(line, reply.second, 2);
+    case 13:
+        line = put_field(line, reply.first, 1);
+        return put_field(line, reply.second, 1);
     default:
         return line;
     }

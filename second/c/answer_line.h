@@ -1,4 +1,4 @@
-/* The answer line of a planned set, as document 01 writes it. */
+/* The answer line of a planned set, as documents 01 and 02 write it. */
 #ifndef ANSWER_LINE_H
 #define ANSWER_LINE_H
 

@@ -19,20 +19,43 @@ static uint64_t size_number(uint32_t frame, uint32_t cores)
     return cores == 0 || cores > MOST_CORES ? 2 : 0;
 }
 
+/* The lowest core at or above m in a mask; MOST_CORES if it has none. */
+static uint32_t missing_core(uint16_t mask, uint32_t cores)
+{
+    uint32_t core = cores;
+    while (core < MOST_CORES && !(mask >> core & 1))
+        core++;
+    return core;
+}
+
+/* 4, 13, 5, or number 0: each over all tasks before the next. */
+static aurhennig_reply task_refusal(const set_input *set)
+{
+    size_t tasks = set->budget_count;
+    for (size_t task = 0; task < tasks; task++)
+        if (set->masks[task] == 0)
+            return reply(4, task, 0);
+    for (size_t task = 0; task < tasks; task++) {
+        aurhennig_reply missing = {13, task, missing_core(set->masks[task], set->cores), 0};
+        if (missing.second < MOST_CORES)
+            return missing;
+    }
+    for (size_t task = 0; task < tasks; task++)
+        if (set->budgets[task] > set->frame)
+            return reply(5, task, 0);
+    return reply(0, 0, 0);
+}
+
 aurhennig_reply expected_plan(const set_input *set)
 {
     uint64_t number = size_number(set->frame, set->cores);
     if (number != 0)
         return reply(number, 0, 0);
-    size_t tasks = set->budget_count;
-    if (tasks > MOST_TASKS || tasks != set->mask_count)
+    if (set->budget_count > MOST_TASKS || set->budget_count != set->mask_count)
         return reply(3, 0, 0);
-    for (size_t task = 0; task < tasks; task++)
-        if (set->masks[task] == 0 || set->masks[task] >> set->cores != 0)
-            return reply(4, task, 0);
-    for (size_t task = 0; task < tasks; task++)
-        if (set->budgets[task] > set->frame)
-            return reply(5, task, 0);
+    aurhennig_reply refusal = task_refusal(set);
+    if (refusal.number != 0)
+        return refusal;
     return reply(set->table_len / 4 < pieces_needed(set) ? 6 : 0, 0, 0);
 }
 

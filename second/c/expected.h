@@ -1,4 +1,4 @@
-/* What document 01 asks of the calls, in plain C, as far as it is quickly said: each refusal with what it carries, counts, and facts that an
+/* What documents 01 and 02 ask of the calls, in plain C, as far as it is quickly said: each refusal with what it carries, counts, and facts that an
  * accepted table and an overload must have. The judge has the rest: the whole overload, the finishes, the choices of a table. */
 #ifndef EXPECTED_H
 #define EXPECTED_H
@@ -8,7 +8,7 @@
 
 int same_reply(aurhennig_reply one, aurhennig_reply other);
 
-/* The answer of the tests 1 to 6; number 0 if they pass. */
+/* The answer of all tests but the last, 7; number 0 if they pass. */
 aurhennig_reply expected_plan(const set_input *set);
 
 /* The answers of the table check and of the move count. */

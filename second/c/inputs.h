@@ -35,7 +35,7 @@ typedef struct {
 /* n + 2m - 1, the pieces for which a table must have room, of a set whose counts are within the limits. */
 size_t pieces_needed(const set_input *set);
 
-/* A set that passes the tests 1 to 6; it may be an overload. */
+/* A set that passes all tests but perhaps the last: it may be an overload. */
 void good_set(set_input *set);
 
 /* As many tasks as are allowed on as many cores, with any masks and budgets that fill the cores. */

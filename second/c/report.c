@@ -7,7 +7,7 @@
 #include <string.h>
 #include <unistd.h>
 
-enum { NUMBERS = 13 };
+enum { NUMBERS = 14 };
 
 static const char *const names[CALLS] = {"plan", "check_table", "count_moves", "walk", "plan_line"};
 static uint64_t counts[CALLS][NUMBERS];
@@ -62,7 +62,7 @@ void print_counts(void)
 const char *never_came(void)
 {
     /* Bit k for number k. 6 of plan_line is the answer without a line. */
-    static const unsigned given[CALLS] = {0x00ff, 0x0107, 0x0107, 0x0f07, 0x10ff};
+    static const unsigned given[CALLS] = {0x20ff, 0x0107, 0x0107, 0x0f07, 0x30ff};
     static char what[40];
     for (int call = 0; call < CALLS; call++)
         for (int number = 0; number < NUMBERS; number++)

@@ -120,19 +120,33 @@ static void spoil_counts(set_input *set)
         set->mask_count = SET_ROOM;
 }
 
-static void spoil_task(set_input *set)
+/* An empty mask, or one with missing cores: the lowest, the highest, any, or all and no other. Where none is missing it may stay. */
+static uint16_t bad_mask(uint16_t mask, uint32_t cores)
 {
-    static const uint16_t masks[] = {0, 0x8000, 0xffff};
-    size_t task = below(set->budget_count);
+    uint32_t missing = cores < MOST_CORES ? UINT32_C(0xffff) << cores & 0xffff : 0;
+    uint32_t lowest = missing & (~missing + 1), highest = missing & 0x8000, any = missing & (uint32_t)random_word();
+    const uint32_t masks[] = {0, 0, mask | lowest, mask | highest, mask | any, missing};
+    return (uint16_t)masks[below(6)];
+}
+
+/* Up to three masks, so that empty ones and missing cores stand side by side, in either order of tasks. */
+static void spoil_masks(set_input *set)
+{
+    for (uint64_t faults = between(1, 3); faults > 0; faults--) {
+        uint16_t *mask = &set->masks[below(set->budget_count)];
+        *mask = bad_mask(*mask, set->cores);
+    }
+}
+
+static void spoil_tasks(set_input *set)
+{
     switch (below(4)) {
     case 0:
-        set->masks[task] = masks[below(3)];
-        break;
     case 1:
-        set->masks[task] = (uint16_t)random_word();
+        spoil_masks(set);
         break;
     case 2:
-        set->budgets[task] = one_in(2) ? set->frame + 1 : UINT32_MAX;
+        set->budgets[below(set->budget_count)] = one_in(2) ? set->frame + 1 : UINT32_MAX;
         break;
     default:
         memset(set->budgets, 0xff, set->budget_count * sizeof *set->budgets);
@@ -142,25 +156,28 @@ static void spoil_task(set_input *set)
 static void spoil_set(set_input *set)
 {
     static const uint32_t frames[] = {0, MOST_FRAME + 1, UINT32_MAX}, cores[] = {0, MOST_CORES + 1, UINT32_MAX};
-    switch (below(8)) {
+    switch (below(9)) {
     case 0:
         set->frame = frames[below(3)];
         break;
     case 1:
         set->cores = cores[below(3)];
         break;
-    case 2:
-        spoil_counts(set);
+    case 2: /* masks made for another rack */
+        set->cores = (uint32_t)between(1, MOST_CORES);
         break;
     case 3:
-        set->table_len = one_in(3) ? 0 : set->table_len > 8 ? set->table_len - between(1, 8) : below(4);
+        spoil_counts(set);
         break;
     case 4:
+        set->table_len = one_in(3) ? 0 : set->table_len > 8 ? set->table_len - between(1, 8) : below(4);
+        break;
+    case 5:
         set->table_len = below(4 * MOST_PIECES);
         break;
     default:
         if (set->budget_count)
-            spoil_task(set);
+            spoil_tasks(set);
     }
 }
 

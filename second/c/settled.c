@@ -1,4 +1,4 @@
-/* Document 01's settled examples, and each number once at its edge: what is handed back, to the value. */
+/* Document 01's settled examples, and each number at its edges: what is handed back, to the value. */
 #include <string.h>
 
 #include "aurhennig.h"
@@ -39,7 +39,16 @@ static const plan_example plans[] = {
     {"65 tasks", SET(10, 2, 65, 380, BUDGETS(0), MASKS(0)), {3, 0, 0, 0}, {0}},
     {"a mask too few", {10, 2, 2, 1, {11}, {0}, 0}, {3, 0, 0, 0}, {0}},
     {"an empty mask beside a budget above F", SET(10, 2, 2, 380, BUDGETS(11, 1), MASKS(1, 0)), {4, 1, 0, 0}, {0}},
-    {"a core at m", SET(10, 2, 3, 380, BUDGETS(1, 1, 1), MASKS(3, 2, 4)), {4, 2, 0, 0}, {0}},
+    {"an empty mask after a missing core", SET(10, 2, 2, 380, BUDGETS(1, 1), MASKS(4, 0)), {4, 1, 0, 0}, {0}},
+    {"an empty mask on 16 cores", SET(10, 16, 2, 380, BUDGETS(11, 1), MASKS(0xffff, 0)), {4, 1, 0, 0}, {0}},
+    {"a core at m", SET(10, 2, 3, 380, BUDGETS(1, 1, 1), MASKS(3, 2, 4)), {13, 2, 2, 0}, {0}},
+    {"core 15 on 2 cores", SET(10, 2, 1, 380, BUDGETS(1), MASKS(0x8001)), {13, 0, 15, 0}, {0}},
+    {"core 15 on 15 cores", SET(10, 15, 1, 380, BUDGETS(0), MASKS(0xffff)), {13, 0, 15, 0}, {0}},
+    {"several missing cores", SET(10, 2, 2, 380, BUDGETS(1, 1), MASKS(3, 0xa009)), {13, 1, 3, 0}, {0}},
+    {"a lower missing core on a later task", SET(10, 2, 2, 380, BUDGETS(1, 1), MASKS(0x20, 4)), {13, 0, 5, 0}, {0}},
+    {"a missing core after a budget above F", SET(10, 2, 2, 0, BUDGETS(11, 1), MASKS(3, 4)), {13, 1, 2, 0}, {0}},
+    {"core 15 on 16 cores", SET(10, 16, 1, 380, BUDGETS(10), MASKS(0x8000)), {0, 0, 0, 1}, {15, 0, 0, 10}},
+    {"all 16 cores and a budget above F", SET(10, 16, 1, 380, BUDGETS(11), MASKS(0xffff)), {5, 0, 0, 0}, {0}},
     {"budgets above F", SET(10, 2, 3, 0, BUDGETS(10, 11, UINT32_MAX), MASKS(3, 3, 3)), {5, 1, 0, 0}, {0}},
     {"a table short of a number", P1_SET(23), {6, 0, 0, 0}, {0}},
     {"a short table before an overload", SET(10, 2, 3, 23, BUDGETS(8, 8, 3), MASKS(1, 1, 2)), {6, 0, 0, 0}, {0}},

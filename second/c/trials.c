@@ -21,7 +21,7 @@ static void judge_plan(const set_input *set, aurhennig_reply reply, const uint32
 {
     aurhennig_reply refusal = expected_plan(set);
     if (refusal.number != 0)
-        right(same_reply(reply, refusal), "not the refusal, or not the task, that the set must get");
+        right(same_reply(reply, refusal), "not the refusal that the set must get, or not what it carries");
     else if (reply.number == 0)
         judge_table(set, written, reply.count);
     else

@@ -5,7 +5,7 @@ use crate::hex::push;
 use crate::overload::{overload, Overload};
 use crate::set::{self, Refusal, Set};
 
-/// What document 01 asks for an input line.
+/// What documents 01 and 02 ask for an input line.
 pub enum Wanted {
     /// A refusal or an overload, which has one right line.
     Line(Vec<u8>),
@@ -13,7 +13,7 @@ pub enum Wanted {
     Table(Set),
 }
 
-/// Tests 12 first, then 1 to 5 and 7. 6 can't occur in the program.
+/// Tests 12 first, then `Set::refusal`, then 7. 6 can't occur in the program.
 pub fn wanted(input: &[u8]) -> Wanted {
     let Some(set) = set::read(input) else {
         return Wanted::Line(b"0c".to_vec());
@@ -28,14 +28,13 @@ pub fn wanted(input: &[u8]) -> Wanted {
 }
 
 fn refusal_line(refusal: Refusal) -> Vec<u8> {
+    let fields = match refusal {
+        Refusal::Plain(number) => vec![number.into()],
+        Refusal::Task(number, task) => vec![number.into(), task as u64],
+        Refusal::MissingCore(task, core) => vec![13, task as u64, core],
+    };
     let mut line = Vec::new();
-    match refusal {
-        Refusal::Plain(number) => push(&mut line, number.into(), 1),
-        Refusal::Task(number, task) => {
-            push(&mut line, number.into(), 1);
-            push(&mut line, task as u64, 1);
-        }
-    }
+    fields.into_iter().for_each(|field| push(&mut line, field, 1));
     line
 }
 

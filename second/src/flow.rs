@@ -11,7 +11,7 @@ const SOURCE: usize = 0;
 const SINK: usize = 1;
 const FIRST_TASK: usize = 2;
 
-/// The overload of a set that passed answers 1 to 5, if it has one. The tasks
+/// The overload of a set that passed `Set::refusal`, if it has one. The tasks
 /// on the source's side of the smallest least cut are the smallest group of
 /// greatest excess, because a cut whose tasks are a group costs all budgets
 /// less that group's excess.

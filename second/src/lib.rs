@@ -1,5 +1,5 @@
 //! The independent second program. Everything in it is written from
-//! document 01; it shares no line and no table with the planner.
+//! documents 01 and 02; it shares no line and no table with the planner.
 
 pub mod accepted;
 pub mod allocation;

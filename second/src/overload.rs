@@ -13,7 +13,7 @@ pub struct Overload {
 /// Up to this many tasks every group is tried.
 const FEW_TASKS: usize = 12;
 
-/// The overload of a set that passed answers 1 to 5, if it has one.
+/// The overload of a set that passed `Set::refusal`, if it has one.
 pub fn overload(set: &Set) -> Option<Overload> {
     if set.tasks.len() <= FEW_TASKS {
         groups::overload(set)

@@ -25,6 +25,8 @@ pub struct Set {
 pub enum Refusal {
     Plain(u8),
     Task(u8, usize),
+    /// Answer 13: a task, and a core that its mask names and the rack lacks.
+    MissingCore(usize, u64),
 }
 
 /// Reads one input line; nothing if it is not well written (answer 12).
@@ -61,7 +63,8 @@ pub fn size_refusal(frame: u64, cores: u64) -> Option<u8> {
 }
 
 impl Set {
-    /// Answers 1 to 5 in that order, each over all tasks before the next.
+    /// Answers 1, 2, 3, 4, 13 and 5 in that order, each over all tasks before
+    /// the next.
     pub fn refusal(&self) -> Option<Refusal> {
         if let Some(number) = size_refusal(self.frame, self.cores) {
             return Some(Refusal::Plain(number));
@@ -69,15 +72,21 @@ impl Set {
         if self.tasks.len() > MOST_TASKS {
             return Some(Refusal::Plain(3));
         }
-        if let Some(task) = self.tasks.iter().position(|task| !self.mask_is_valid(task.mask)) {
+        if let Some(task) = self.tasks.iter().position(|task| task.mask == 0) {
             return Some(Refusal::Task(4, task));
+        }
+        if let Some((task, core)) = self.missing_core() {
+            return Some(Refusal::MissingCore(task, core));
         }
         let above = |task: &Task| task.budget > self.frame;
         let task = self.tasks.iter().position(above)?;
         Some(Refusal::Task(5, task))
     }
 
-    fn mask_is_valid(&self, mask: u16) -> bool {
-        mask != 0 && u64::from(mask) < 1 << self.cores
+    /// The lowest task whose mask names a missing core, and its lowest one.
+    fn missing_core(&self) -> Option<(usize, u64)> {
+        let lowest = |task: &Task| (self.cores..MOST_CORES).find(|core| task.mask >> core & 1 == 1);
+        let mut named = self.tasks.iter().map(lowest).enumerate();
+        named.find_map(|(task, core)| Some((task, core?)))
     }
 }

@@ -1,4 +1,4 @@
-//! Faults put into a set so that it is refused with 1 to 5.
+//! Faults put into a set so that it is refused with 1 to 5 or 13.
 
 use crate::random::Random;
 use crate::set::{Set, Task, MOST_CORES, MOST_FRAME, MOST_TASKS};
@@ -8,11 +8,13 @@ const WORD: u64 = u32::MAX as u64;
 /// One to three faults, so that the order of the tests is met too.
 pub fn add(random: &mut Random, set: &mut Set) {
     for _ in 0..random.between(1, 3) {
-        match random.below(8) {
+        match random.below(9) {
             0 => set.frame = random.pick(&[0, MOST_FRAME + 1, WORD]),
             1 => set.cores = random.pick(&[0, MOST_CORES + 1, 255]),
             2 => too_many(random, set),
-            3..=5 => bad_mask(random, set),
+            3..=5 => bad_masks(random, set),
+            // Masks made for another rack.
+            6 => set.cores = random.between(1, MOST_CORES),
             _ => high_budget(random, set),
         }
     }
@@ -27,18 +29,28 @@ fn too_many(random: &mut Random, set: &mut Set) {
     }
 }
 
-fn bad_mask(random: &mut Random, set: &mut Set) {
+/// One to three masks, so that empty ones and missing cores stand side by side
+/// in either order of tasks.
+fn bad_masks(random: &mut Random, set: &mut Set) {
     if set.tasks.is_empty() {
         return;
     }
-    let task = random.place(set.tasks.len());
-    let mask = &mut set.tasks[task].mask;
-    *mask = match random.below(3) {
-        0 => 0,
-        1 if set.cores < MOST_CORES => *mask | 1 << set.cores,
-        1 => 0,
-        _ => *mask | 1 << random.below(16),
-    };
+    for _ in 0..random.between(1, 3) {
+        let task = random.place(set.tasks.len());
+        set.tasks[task].mask = bad_mask(random, set.tasks[task].mask, set.cores);
+    }
+}
+
+/// An empty mask, or one with missing cores; where none is missing it may stay.
+fn bad_mask(random: &mut Random, mask: u16, cores: u64) -> u16 {
+    let missing = u16::MAX.checked_shl(cores as u32).unwrap_or(0);
+    match random.below(6) {
+        0..=1 => 0,
+        2 => mask | missing & missing.wrapping_neg(), // core m
+        3 => mask | missing & 1 << 15,
+        4 => mask | missing & random.word() as u16,
+        _ => missing,
+    }
 }
 
 fn high_budget(random: &mut Random, set: &mut Set) {

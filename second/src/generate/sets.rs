@@ -1,4 +1,4 @@
-//! Sets that pass answers 1 to 5, from empty to full.
+//! Sets that pass every test before the overload, from empty to full.
 
 use super::masks::masks;
 use crate::random::Random;

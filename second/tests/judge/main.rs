@@ -2,6 +2,8 @@
 
 mod commands;
 mod generated;
+mod masks;
 mod overloads;
 mod planner;
 mod settled;
+mod written;

@@ -1,10 +1,10 @@
 //! The settled examples of document 01.
 
 use crate::planner;
+use crate::written::{input, right, wrong};
 use second::allocation::Allocation;
 use second::answers::judge;
 use second::call_line::{self, Call};
-use second::hex::push;
 use second::jobs::{walk, Walked};
 use second::table::{from_words, moves, Piece};
 use second::{accepted, table_line, walk_line};
@@ -16,23 +16,6 @@ const P1_OUT: &str = "000005\
     01020000000000000003\
     01000000000300000001\
     01020000000400000002";
-
-fn input(frame: u64, cores: u64, tasks: &[(u64, u64)]) -> Vec<u8> {
-    let mut line = Vec::new();
-    push(&mut line, frame, 4);
-    push(&mut line, cores, 1);
-    push(&mut line, tasks.len() as u64, 1);
-    for &(budget, mask) in tasks {
-        push(&mut line, budget, 4);
-        push(&mut line, mask, 2);
-    }
-    line
-}
-
-fn right(input: &[u8], output: &str) {
-    assert_eq!(judge(input, output.as_bytes()), Ok(()));
-    assert_eq!(planner::answer(input), output.as_bytes());
-}
 
 fn p1_table() -> Vec<Piece> {
     let words = [0, 0, 0, 3, 0, 1, 3, 3, 1, 2, 0, 3, 1, 0, 3, 1, 1, 2, 4, 2];
@@ -129,7 +112,6 @@ fn run_examples() {
 
 #[test]
 fn shortcuts_are_wrong() {
-    let wrong = |input: &[u8], output: &str| assert!(judge(input, output.as_bytes()).is_err());
     // Accepting P2 by its total, and P7 refused because core 0 was filled first.
     wrong(&input(10, 2, &[(8, 1), (8, 1), (3, 2)]), "000000");
     wrong(&input(10, 2, &[(5, 3), (10, 1)]), "0700000000000000030001");

@@ -32,10 +32,10 @@ LEVELS = {"→": (0, "r"), "×": (1, "r"), "≡": (2, "n"), "≤": (2, "n"), "<"
 CLOSERS = {")", "]", "}", ";", ",", "|", "↦", "in", "=", ":"}
 EITHER_WAY = {"eqb", "max", "bitOr"}
 ANSWERS = [["Accepted", "FrameLength", "CoreCount", "TaskCount", "ShortTable", "NotTable", "ShortFinishes", "BadLine"],
-           ["Mask", "Budget", "JobList", "NoUnits"]]
+           ["EmptyMask", "Budget", "JobList", "NoUnits"], ["Overloaded", "MissingCore"]]
 DROPPED = {"put": 2, "drop": 1, "suc": 0, "not": 0, "insert": 1}
 HOMES = {"Prim.Native.Nat": ["_≤_", "_<_"], "lib.Dec": ["leb", "ltb"], "mathlib.Core.Bool": ["true", "false", "_&&_", "_||_"],
-         "Rattle.rules.specs.declared.Answer.the-variants": ANSWERS[0] + ANSWERS[1]}
+         "Rattle.rules.specs.declared.Answer.the-variants": ANSWERS[0] + ANSWERS[1] + ANSWERS[2]}
 FOLLOWS = re.compile("was not admitted")
 FORM = re.compile("is not a field of|explicit argument|is given [0-9]+ argument|binders, but its type|components but its type|not in scope|unknown")
 COPIES = 12

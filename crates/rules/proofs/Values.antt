@@ -3,6 +3,7 @@
 mod Sums
 mod Answers
 mod Tests
+mod MaskFaults
 mod Frames
 mod Walks
 mod Finishes

@@ -6,11 +6,9 @@ use mathlib.Core.List.{List, [], _∷_}
 use Prim.Native.Nat.{ℕ, zero, suc, _+_, _≤_, _<_}
 use native.Mathlib.Numerals.{add-one}
 use native.Mathlib.Omega.{arith}
-use borrow.Author.Tests.{lt-ltb, le-ltb}
 use lib.ListN.{length, getD, drop, drop-of-length-le}
 use lib.Seq.{drop-cons}
 use Rattle.rules.specs.Sum.{firstAt}
-use Rattle.rules.specs.Tests.{badBudget}
 
 module _ (p : ℕ → Bool) where
   pub first-cons-hit : (a : ℕ) (l : List ℕ) → p a ≡ true → firstAt p (a ∷ l) ≡ 0
@@ -42,22 +40,6 @@ module _ (p : ℕ → Bool) where
 
   pub first-end : (s : List ℕ) (i : ℕ) → NoneBefore s i → length s ≤ i → i ≡ firstAt p s
   first-end s i h l = omega (arith, h, ap (firstAt p) (drop-of-length-le s l) ∙ first-nil)
-
--- the same by what a function says of the test
-module _ (p : ℕ → Bool) (s : List ℕ) (i : ℕ) (b : Bool) (h : NoneBefore p s i) (l : i < length s) (e : b ≡ p (getD s i 0)) where
-  pub first-hit-by : b ≡ true → i ≡ firstAt p s
-  first-hit-by t = first-hit p s i h l (sym e ∙ t)
-
-  pub first-more-by : b ≡ false → NoneBefore p s (i + 1)
-  first-more-by f = first-more p s i h l (sym e ∙ f)
-
-pub budget-above : (F budget : ℕ) → F < budget → badBudget F budget ≡ true
-unfolding badBudget
-budget-above F budget h = lt-ltb F budget h
-
-pub budget-within : (F budget : ℕ) → budget ≤ F → badBudget F budget ≡ false
-unfolding badBudget
-budget-within F budget h = le-ltb F budget h
 
 -- the first place is one where the test passes, nothing before it does, and no other place is so
 module _ (p : ℕ → Bool) where

@@ -20,7 +20,7 @@ use Rattle.sums.proofs.Both.{or-left, or-right}
 use Rattle.tests.specs.Given.{Given, Admitted}
 use Rattle.tests.proofs.FirstLaws.{first-cons-hit, first-cons-miss}
 
-pub never : (a : Answer) → refused a ≡ passed → ⊥
+never : (a : Answer) → refused a ≡ passed → ⊥
 never a e = let z : _≡_ {A = ℕ} 0 1 = cc in omega arith
 
 -- a test that was passed, and what comes after it

@@ -1,4 +1,4 @@
--- Laws on the scans over all masks, which pass on what the test of one mask says.
+-- Laws on the scans over all tasks: those over masks pass on what the test of one mask says.
 -- Assumes nothing.
 use mathlib.Core.Path.{_≡_, refl, sym, _∙_, ap, subst}
 use mathlib.Core.Bool.{Bool, true, false, cond, not}
@@ -12,12 +12,12 @@ use denote.Enum.Declared.{tagOf}
 use lib.Dec.{eqb}
 use lib.ListN.{length, getD}
 use Rattle.rules.specs.Sum.{firstAt}
-use Rattle.rules.specs.Tests.{refused, passed, emptyMask, pastCores, lowestMissing, maskTested}
-use Rattle.rules.specs.declared.Answer.the-variants.{EmptyMask, MissingCore}
+use Rattle.rules.specs.Tests.{refused, passed, emptyMask, pastCores, lowestMissing, maskTested, badBudget}
+use Rattle.rules.specs.declared.Answer.the-variants.{EmptyMask, Budget, MissingCore}
 use Rattle.rules.specs.declared.MaskTest.{MaskTest}
 use Rattle.rules.specs.declared.MaskTest.the-variants.{Good, Empty, Missing}
 use Rattle.rules.proofs.MaskTest.{the-type}
-use Rattle.tests.specs.Verdict.{testedEmpty, testedMissing}
+use Rattle.tests.specs.Verdict.{testedEmpty, testedMissing, testedBudgets}
 use Rattle.tests.proofs.FirstLaws.{NoneBefore, first-hit, first-more, first-end}
 
 -- what the test said, as numbers
@@ -66,7 +66,7 @@ module _ (m : ℕ) (s : List ℕ) (i : ℕ) (l : i < length s) (t : MaskTest) (s
   abbrev here : ℕ
   here = getD s i 0
 
-  pub empty-hit : NoneBefore emptyMask s i → t ≡ Empty → refused (EmptyMask i) ≡ testedEmpty s passed
+  pub empty-hit : NoneBefore emptyMask s i → t ≡ Empty → refused (EmptyMask i) ≡ testedEmpty s
   unfolding maskTested testedEmpty kind
   empty-hit h e =
       let first : i ≡ firstAt emptyMask s = first-hit emptyMask s i h l (said-empty (lowestMissing m here) (emptyMask here) (pastCores m here) (ap kind (sym said ∙ e))) in
@@ -76,7 +76,7 @@ module _ (m : ℕ) (s : List ℕ) (i : ℕ) (l : i < length s) (t : MaskTest) (s
   unfolding maskTested
   empty-more h k = first-more emptyMask s i h l (said-not-empty (lowestMissing m here) (emptyMask here) (pastCores m here) (subst (λ (u : MaskTest). OneOf (0 ∷ 2 ∷ []) (tagOf the-type u)) said k))
 
-  pub missing-hit : NoneBefore (pastCores m) s i → (core : ℕ) → t ≡ Missing core → refused (MissingCore i core) ≡ testedMissing m s passed
+  pub missing-hit : NoneBefore (pastCores m) s i → (core : ℕ) → t ≡ Missing core → refused (MissingCore i core) ≡ testedMissing m s
   unfolding maskTested testedMissing kind coreOf
   missing-hit h core e =
       let told = said-missing (lowestMissing m here) (emptyMask here) (pastCores m here) (ap kind (sym said ∙ e)) in
@@ -92,10 +92,23 @@ module _ (m : ℕ) (s : List ℕ) (i : ℕ) (l : i < length s) (t : MaskTest) (s
       (subst (λ (u : MaskTest). OneOf (0 ∷ 1 ∷ []) (tagOf the-type u)) said k))
 
 module _ (s : List ℕ) (i : ℕ) (l : length s ≤ i) where
-  pub empty-none : NoneBefore emptyMask s i → passed ≡ testedEmpty s passed
+  pub empty-none : NoneBefore emptyMask s i → passed ≡ testedEmpty s
   unfolding testedEmpty
   empty-none h = rw (← first-end emptyMask s i h l, le-ltb _ _ l) refl
 
-  pub missing-none : (m : ℕ) → NoneBefore (pastCores m) s i → passed ≡ testedMissing m s passed
+  pub missing-none : (m : ℕ) → NoneBefore (pastCores m) s i → passed ≡ testedMissing m s
   unfolding testedMissing
   missing-none m h = rw (← first-end (pastCores m) s i h l, le-ltb _ _ l) refl
+
+  pub budget-none : (F : ℕ) → NoneBefore (badBudget F) s i → passed ≡ testedBudgets F s
+  unfolding testedBudgets
+  budget-none F h = rw (← first-end (badBudget F) s i h l, le-ltb _ _ l) refl
+
+module _ (F : ℕ) (s : List ℕ) (i : ℕ) (l : i < length s) (h : NoneBefore (badBudget F) s i) where
+  pub budget-hit : F < getD s i 0 → refused (Budget i) ≡ testedBudgets F s
+  unfolding testedBudgets badBudget
+  budget-hit g = let first : i ≡ firstAt (badBudget F) s = first-hit (badBudget F) s i h l (lt-ltb F (getD s i 0) g) in rw (← first, lt-ltb _ _ l) refl
+
+  pub budget-more : getD s i 0 ≤ F → NoneBefore (badBudget F) s (i + 1)
+  unfolding badBudget
+  budget-more g = first-more (badBudget F) s i h l (le-ltb F (getD s i 0) g)

@@ -11,52 +11,20 @@ use Rattle.rules.specs.Sum.{firstAt}
 use Rattle.rules.specs.Tests.{Tested, refused, passed, badFrame, badCores, badTasks, emptyMask, missingTask, missingCore, badBudget, shortTable, testedSet, thenRoom, tested}
 use Rattle.rules.specs.Piece.{wholePieces}
 use Rattle.rules.specs.declared.Answer.{Answer}
-use Rattle.rules.specs.declared.Answer.the-variants.{FrameLength, CoreCount, TaskCount, EmptyMask, Budget, ShortTable, MissingCore}
-use Rattle.tests.specs.Verdict.{testedEmpty, testedMissing, testedBudgets, testedTasks}
-use Rattle.tests.proofs.PassedLaws.{never}
+use Rattle.rules.specs.declared.Answer.the-variants.{FrameLength, CoreCount, TaskCount, EmptyMask, ShortTable, MissingCore}
+use Rattle.tests.specs.Verdict.{testedEmpty, testedMissing, testedBudgets, firstRefusal, testedTasks}
 
--- a test alone, and with the tests after it: its refusal stands; where it is passed, the next decide
-stands : (b : Bool) (own : Answer) (next : Tested) (a : Answer) → refused a ≡ cond b (refused own) passed → refused a ≡ cond b (refused own) next
-stands true own next a e = e
-stands false own next a e = absurd (never a e)
-
-goes-on : (b : Bool) (own : Answer) (next v : Tested) → passed ≡ cond b (refused own) passed → v ≡ next → v ≡ cond b (refused own) next
-goes-on true own next v e h = absurd (never own (sym e))
-goes-on false own next v e h = h
+-- a test, and the tests after it
+in-order : (b : Bool) (a : Answer) (next : Tested) → firstRefusal (cond b (refused a) passed) next ≡ cond b (refused a) next
+in-order true a next = refl
+in-order false a next = refl
 
 module _ (F m : ℕ) (budgets masks : List ℕ) where
-  after-empty : (v next : Tested) → passed ≡ testedEmpty masks passed → v ≡ next → v ≡ testedEmpty masks next
-  unfolding testedEmpty
-  after-empty v next e h = goes-on (ltb (firstAt emptyMask masks) (length masks)) (EmptyMask (firstAt emptyMask masks)) next v e h
-
-  after-missing : (v next : Tested) → passed ≡ testedMissing m masks passed → v ≡ next → v ≡ testedMissing m masks next
-  unfolding testedMissing
-  after-missing v next e h = goes-on (ltb (missingTask m masks) (length masks)) (MissingCore (missingTask m masks) (missingCore m masks)) next v e h
-
-  pub by-empty : (a : Answer) → refused a ≡ testedEmpty masks passed → refused a ≡ testedTasks F m budgets masks
-  unfolding testedEmpty
-  by-empty a e =
-      stands (ltb (firstAt emptyMask masks) (length masks)) (EmptyMask (firstAt emptyMask masks)) (testedMissing m masks (testedBudgets F budgets)) a e
-
-  module _ (e : passed ≡ testedEmpty masks passed) where
-    pub by-missing : (a : Answer) → refused a ≡ testedMissing m masks passed → refused a ≡ testedTasks F m budgets masks
-    unfolding testedMissing
-    by-missing a h =
-        after-empty (refused a) (testedMissing m masks (testedBudgets F budgets)) e
-        (stands (ltb (missingTask m masks) (length masks)) (MissingCore (missingTask m masks) (missingCore m masks)) (testedBudgets F budgets) a h)
-
-    module _ (g : passed ≡ testedMissing m masks passed) (j : ℕ) (f : j ≡ firstAt (badBudget F) budgets) where
-      -- the test 5 after 4 and 13
-      by-five : (v : Tested) → v ≡ testedBudgets F budgets → v ≡ testedTasks F m budgets masks
-      by-five v h = after-empty v (testedMissing m masks (testedBudgets F budgets)) e (after-missing v (testedBudgets F budgets) g h)
-
-      pub by-budget : j < length budgets → refused (Budget j) ≡ testedTasks F m budgets masks
-      unfolding testedBudgets
-      by-budget h = by-five (refused (Budget j)) (rw (← f) (rw (lt-ltb _ _ h) refl))
-
-      pub by-none : length budgets ≤ j → passed ≡ testedTasks F m budgets masks
-      unfolding testedBudgets
-      by-none h = by-five passed (rw (← f) (rw (le-ltb _ _ h) refl))
+  -- 4, 13 and 5
+  pub by-three : (e k b l v : Tested) → e ≡ testedEmpty masks → k ≡ testedMissing m masks → b ≡ testedBudgets F budgets
+      → l ≡ firstRefusal k b → v ≡ firstRefusal e l → v ≡ testedTasks F m budgets masks
+  unfolding testedTasks
+  by-three e k b l v ee ek eb el ev = ev ∙ ap (firstRefusal e) (el ∙ ap (firstRefusal k) eb) ∙ rw (ee, ek) refl
 
   pub by-no-frame : F ≡ 0 → refused FrameLength ≡ testedSet F m budgets masks
   unfolding testedSet badFrame
@@ -88,8 +56,13 @@ module _ (F m : ℕ) (budgets masks : List ℕ) where
             by-unlike ne = rw (ne-eqb F 0 f, le-ltb _ _ g, ne-eqb m 0 c, le-ltb _ _ d, le-ltb _ _ l, ne-eqb _ _ ne)
 
             pub by-tasks : length budgets ≡ length masks → (v : Tested) → v ≡ testedTasks F m budgets masks → v ≡ testedSet F m budgets masks
-            unfolding testedSet badFrame badCores badTasks testedEmpty testedMissing testedBudgets
-            by-tasks e v h = rw (ne-eqb F 0 f, le-ltb _ _ g, ne-eqb m 0 c, le-ltb _ _ d, le-ltb _ _ l, eq-eqb _ _ e) h
+            unfolding testedSet badFrame badCores badTasks testedTasks testedEmpty testedMissing testedBudgets
+            by-tasks e v h =
+                rw (ne-eqb F 0 f, le-ltb _ _ g, ne-eqb m 0 c, le-ltb _ _ d, le-ltb _ _ l, eq-eqb _ _ e)
+                (h
+                ∙ in-order (ltb (firstAt emptyMask masks) (length masks)) (EmptyMask (firstAt emptyMask masks)) (firstRefusal (testedMissing m masks) (testedBudgets F budgets))
+                ∙ ap (cond (ltb (firstAt emptyMask masks) (length masks)) (refused (EmptyMask (firstAt emptyMask masks))))
+                (in-order (ltb (missingTask m masks) (length masks)) (MissingCore (missingTask m masks) (missingCore m masks)) (testedBudgets F budgets)))
 
 -- the test 6
 module _ (n m : ℕ) (table : List ℕ) where

@@ -15,15 +15,21 @@ abbrev pub verdictOf : Verdict → Tested
 verdictOf (Refused a) = refused a
 verdictOf Passed = passed
 
--- the tests 4, 13 and 5, the last three of `testedSet`, each with what the tests after it say
-unfoldable pub testedEmpty : List ℕ → Tested → Tested
-testedEmpty masks next = cond (ltb (firstAt emptyMask masks) (length masks)) (refused (EmptyMask (firstAt emptyMask masks))) next
+-- the tests 4, 13 and 5, the last three of `testedSet`, each alone
+unfoldable pub testedEmpty : List ℕ → Tested
+testedEmpty masks = cond (ltb (firstAt emptyMask masks) (length masks)) (refused (EmptyMask (firstAt emptyMask masks))) passed
 
-unfoldable pub testedMissing : ℕ → List ℕ → Tested → Tested
-testedMissing m masks next = cond (ltb (missingTask m masks) (length masks)) (refused (MissingCore (missingTask m masks) (missingCore m masks))) next
+unfoldable pub testedMissing : ℕ → List ℕ → Tested
+testedMissing m masks = cond (ltb (missingTask m masks) (length masks)) (refused (MissingCore (missingTask m masks) (missingCore m masks))) passed
 
 unfoldable pub testedBudgets : ℕ → List ℕ → Tested
 testedBudgets F budgets = cond (ltb (firstAt (badBudget F) budgets) (length budgets)) (refused (Budget (firstAt (badBudget F) budgets))) passed
 
-abbrev pub testedTasks : ℕ → ℕ → List ℕ → List ℕ → Tested
-testedTasks F m budgets masks = testedEmpty masks (testedMissing m masks (testedBudgets F budgets))
+-- two tests, the one before the other
+abbrev pub firstRefusal : Tested → Tested → Tested
+firstRefusal (refused a) other = refused a
+firstRefusal passed other = other
+
+-- .. and the three in their order
+unfoldable pub testedTasks : ℕ → ℕ → List ℕ → List ℕ → Tested
+testedTasks F m budgets masks = firstRefusal (testedEmpty masks) (firstRefusal (testedMissing m masks) (testedBudgets F budgets))

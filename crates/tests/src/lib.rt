@@ -3,10 +3,9 @@ use rules::Answer;
 use rules::MaskTest;
 ghost use mathlib.Core.Path.{_≡_};
 ghost use Prim.Native.Nat.{_+_, _/_, _≤_, _<_};
-ghost use Rattle.rules.specs.Sum.{firstAt};
 ghost use Rattle.rules.specs.Piece.{wholePieces};
-ghost use Rattle.rules.specs.Tests.{lowestMissing, maskTested, badBudget, shortTable, passed, testedSet, thenRoom, tested};
-ghost use Rattle.tests.specs.Verdict.{verdictOf, testedEmpty, testedMissing, testedTasks};
+ghost use Rattle.rules.specs.Tests.{lowestMissing, maskTested, shortTable, passed, testedSet, thenRoom, tested};
+ghost use Rattle.tests.specs.Verdict.{verdictOf, testedEmpty, testedMissing, testedBudgets, firstRefusal, testedTasks};
 
 // The lowest core of a mask at or above the number of cores; 16 where there is none.
 fn lowest_missing(mask: u16, cores: u32) -> u32
@@ -46,7 +45,7 @@ pub enum Verdict {
 // The test 4 over all tasks: the lowest with an empty mask.
 fn test_empty(masks: &[u16], cores: u32) -> Verdict
     requires { ⌜ cores ≤ 16 ⌝ }
-    ensures { λ r. ⌜ verdictOf r ≡ testedEmpty (now (masks .entry)) passed ⌝ }
+    ensures { λ r. ⌜ verdictOf r ≡ testedEmpty (now (masks .entry)) ⌝ }
 {
     let mut i: usize = 0;
     while i < masks.len() {
@@ -62,7 +61,7 @@ fn test_empty(masks: &[u16], cores: u32) -> Verdict
 // The test 13 over all tasks: the lowest whose mask names a missing core, with the lowest such core.
 fn test_missing(masks: &[u16], cores: u32) -> Verdict
     requires { ⌜ cores ≤ 16 ⌝ }
-    ensures { λ r. ⌜ verdictOf r ≡ testedMissing cores (now (masks .entry)) passed ⌝ }
+    ensures { λ r. ⌜ verdictOf r ≡ testedMissing cores (now (masks .entry)) ⌝ }
 {
     let mut i: usize = 0;
     while i < masks.len() {
@@ -75,38 +74,40 @@ fn test_missing(masks: &[u16], cores: u32) -> Verdict
     Verdict::Passed
 }
 
-// The lowest task with a budget above the frame; the number of tasks where there is none.
-fn first_bad_budget(budgets: &[u32], frame: u32) -> usize
-    ensures { λ r. ⌜ r ≡ firstAt (badBudget frame) (now (budgets .entry)) ⌝ }
+// The test 5 over all tasks: the lowest with a budget above the frame.
+fn test_budgets(budgets: &[u32], frame: u32) -> Verdict
+    ensures { λ r. ⌜ verdictOf r ≡ testedBudgets frame (now (budgets .entry)) ⌝ }
 {
     let mut i: usize = 0;
     while i < budgets.len() {
         if frame < budgets[i] {
-            return i;
+            return Verdict::Refused(Answer::Budget(i));
         }
         i += 1;
     }
-    i
+    Verdict::Passed
 }
 
-// The tests 4, 13 and 5.
+// Two tests, the one before the other.
+fn first_refusal(one: Verdict, other: Verdict) -> Verdict
+    ensures { λ r. ⌜ verdictOf r ≡ firstRefusal (verdictOf one) (verdictOf other) ⌝ }
+{
+    match one {
+        Verdict::Refused(answer) => Verdict::Refused(answer),
+        Verdict::Passed => other,
+    }
+}
+
+// The tests 4, 13 and 5, in this order.
 fn test_tasks(frame: u32, cores: u32, budgets: &[u32], masks: &[u16]) -> Verdict
     requires { ⌜ cores ≤ 16 ⌝ }
     ensures { λ r. ⌜ verdictOf r ≡ testedTasks frame cores (now (budgets .entry)) (now (masks .entry)) ⌝ }
 {
     let empty = test_empty(masks, cores);
-    if let Verdict::Refused(answer) = empty {
-        return Verdict::Refused(answer);
-    }
     let missing = test_missing(masks, cores);
-    if let Verdict::Refused(answer) = missing {
-        return Verdict::Refused(answer);
-    }
-    let budget = first_bad_budget(budgets, frame);
-    if budget < budgets.len() {
-        return Verdict::Refused(Answer::Budget(budget));
-    }
-    Verdict::Passed
+    let high = test_budgets(budgets, frame);
+    let later = first_refusal(missing, high);
+    first_refusal(empty, later)
 }
 
 // The tests 1 to 5, which look at the set alone.

@@ -1,11 +1,12 @@
--- Nothing passed is bad. Assumes nothing.
+-- No budget passed is above the frame. Assumes nothing.
 use Prim.Native.Nat.{_-_, _≤_}
 use lib.ListN.{length}
 use Rattle.rules.specs.Tests.{badBudget}
-use Rattle.tests.proofs.FirstLaws.{NoneBefore, first-begins, first-hit, first-more, first-end, budget-above, budget-within}
+use Rattle.tests.proofs.FirstLaws.{NoneBefore, first-begins}
+use Rattle.tests.proofs.ScanLaws.{budget-hit, budget-more, budget-none}
 use borrow.Author.Needs.{needs}
-use Rattle.tests.proofs.first_bad_budget.Statement.{statement}
-use Rattle.tests.proofs.first_bad_budget.Tie as tie
+use Rattle.tests.proofs.test_budgets.Statement.{statement}
+use Rattle.tests.proofs.test_budgets.Tie as tie
 
 abbrev Inv-loop : tie.InvT-loop
 Inv-loop budgets frame i₀ i = (i ≤ length budgets) × NoneBefore (badBudget frame) budgets i
@@ -23,7 +24,7 @@ shared-slice-read-if1 : tie.Need-shared-slice-read-if1 Inv-loop μ-loop
 shared-slice-read-if1 c = search needs
 
 returns : tie.Need-returns Inv-loop μ-loop
-returns c = search (first-hit, budget-above, needs)
+returns c = search (budget-hit, needs)
 
 add-i : tie.Need-add-i Inv-loop μ-loop
 add-i c = search needs
@@ -32,13 +33,13 @@ loop-less : tie.Need-loop-less Inv-loop μ-loop
 loop-less c = search needs
 
 loop-again : tie.Need-loop-again Inv-loop μ-loop
-loop-again c = (search needs, search (first-more, budget-within, needs))
+loop-again c = (search needs, search (budget-more, needs))
 
 returns-2 : tie.Need-returns-2 Inv-loop μ-loop
-returns-2 c = search (first-end, needs)
+returns-2 c = search (budget-none, needs)
 
-pub first-bad-budget-spec : {M : Type 1} → statement M
-first-bad-budget-spec =
+pub test-budgets-spec : {M : Type 1} → statement M
+test-budgets-spec =
     tie.close
     (tie.spec
     Inv-loop

@@ -40,6 +40,19 @@ number-back a ps = at-read (answerLine a ps) [] (answerRest a ps) 0 2 (numberOf 
     small BadLine = omega arith
     small (MissingCore task core) = omega arith
 
+-- what 4 and 13 carry
+pub empty-back : (task : ℕ) (ps : List Piece) → Shown (EmptyMask task) ps → digitsAt (answerLine (EmptyMask task) ps) 2 2 ≡ task
+unfolding answerLine lineWidths valuesLine answerRest
+empty-back task ps s = at-read (answerLine (EmptyMask task) ps) (bytes 1 4) [] 2 2 task refl (length-digits 2 4) s
+
+pub missing-back : (task core : ℕ) (ps : List Piece) → Shown (MissingCore task core) ps
+    → (digitsAt (answerLine (MissingCore task core) ps) 2 2 ≡ task) × (digitsAt (answerLine (MissingCore task core) ps) 4 2 ≡ core)
+unfolding answerLine lineWidths valuesLine answerRest
+missing-back task core ps s = (
+  at-read (answerLine (MissingCore task core) ps) (bytes 1 13) (bytes 1 core ++ []) 2 2 task refl (length-digits 2 13) (s .0),
+  at-read (answerLine (MissingCore task core) ps) (bytes 1 13 ++ bytes 1 task) [] 4 2 core (simp append-assoc) (simp (length-append, length-digits)) (s .1),
+)
+
 -- the answer of a line, by its number
 answerWith : ℕ → List ℕ → Answer
 answerWith n l =
@@ -61,7 +74,7 @@ answer-back Accepted ps s = refl
 answer-back FrameLength ps s = refl
 answer-back CoreCount ps s = refl
 answer-back TaskCount ps s = refl
-answer-back (EmptyMask task) ps s = ap EmptyMask (at-read (answerLine (EmptyMask task) ps) (bytes 1 4) [] 2 2 task refl (length-digits 2 4) s)
+answer-back (EmptyMask task) ps s = ap EmptyMask (empty-back task ps s)
 answer-back (Budget task) ps s = ap Budget (at-read (answerLine (Budget task) ps) (bytes 1 5) [] 2 2 task refl (length-digits 2 5) s)
 answer-back ShortTable ps s = refl
 answer-back (Overloaded group cores) ps s =
@@ -74,11 +87,7 @@ answer-back (JobList job) ps s = absurd s
 answer-back (NoUnits job) ps s = absurd s
 answer-back ShortFinishes ps s = refl
 answer-back BadLine ps s = refl
-answer-back (MissingCore task core) ps s =
-    simp (
-      at-read (answerLine (MissingCore task core) ps) (bytes 1 13) (bytes 1 core ++ []) 2 2 task refl (length-digits 2 13) (s .0),
-      at-read (answerLine (MissingCore task core) ps) (bytes 1 13 ++ bytes 1 task) [] 4 2 core (simp append-assoc) (simp (length-append, length-digits)) (s .1),
-    )
+answer-back (MissingCore task core) ps s = simp (missing-back task core ps s .0, missing-back task core ps s .1)
 
 -- the pieces of a line from the place p on
 piecesFrom : List ℕ → ℕ → ℕ → List Piece

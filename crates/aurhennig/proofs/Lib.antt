@@ -1,4 +1,5 @@
 pub mod CallLaws
+pub mod LineFaults
 pub mod NeverSix
 pub mod OneAnswer
 pub mod ReplyLaws

@@ -123,7 +123,8 @@ module _ (F m : ℕ) (budgets masks before : List ℕ) (r : Planned) (after : Li
   decided-refuses (planned x p) n = absurd (n (p .answer))
   decided-refuses (overloaded g p) n = none-shown (Overloaded g (union (length budgets) (at masks) g)) (p .refusal)
 
-  refuses-at : (t : Tested) → PlanAnswerAt t F m budgets masks before r after → (r .answer ≡ Accepted → ⊥) → shown-pieces r after ≡ []
+  -- a refusal shows no pieces
+  pub refuses-at : (t : Tested) → PlanAnswerAt t F m budgets masks before r after → (r .answer ≡ Accepted → ⊥) → shown-pieces r after ≡ []
   refuses-at (refused a) h n = none-shown a h
   refuses-at passed h n = decided-refuses h n
 

@@ -1,8 +1,8 @@
 -- Document 02, (ii), of a line's answer: 04 and its task exactly at an empty mask, 0d with its task and core exactly at a missing core.
 -- Assumes nothing.
-use mathlib.Core.Path.{_≡_, refl, sym, _∙_, ap, subst}
+use mathlib.Core.Path.{_≡_, sym, _∙_, ap, subst}
 use mathlib.Core.List.{List, []}
-use Prim.Native.Nat.{ℕ, _^_, _<_}
+use Prim.Native.Nat.{ℕ}
 use native.Mathlib.Omega.{arith}
 use Rattle.rules.specs.Answer.{numberOf}
 use Rattle.rules.specs.Tests.{tested}
@@ -11,7 +11,7 @@ use Rattle.rules.specs.Plan.{at}
 use Rattle.rules.specs.Line.{digitsAt, field, lineFrame, lineCores, lineBudgets, lineMasks, answerLine}
 use Rattle.rules.specs.LineCall.{lentTable, LinePlanned}
 use Rattle.rules.specs.declared.Answer.{Answer}
-use Rattle.rules.specs.declared.Answer.the-variants.{Accepted, EmptyMask, MissingCore}
+use Rattle.rules.specs.declared.Answer.the-variants.{EmptyMask, MissingCore}
 use Rattle.setline.proofs.Narrow.{masks-narrow}
 use Rattle.answerline.specs.Shown.{Shown}
 use Rattle.answerline.proofs.Distinct.{number-back, empty-back, missing-back}
@@ -36,7 +36,12 @@ module _ (l x : List ℕ) (p : LinePlanned l x) where
 
   -- a refusal's line shows no pieces
   bare-line : (a : Answer) → p .answer .answer ≡ a → (numberOf a ≡ 0 → ⊥) → x ≡ answerLine a []
-  bare-line a e n = line-of a e ∙ ap (answerLine a) (refuses-at (lineFrame l) (lineCores l) (lineBudgets l) (lineMasks l) lentTable (p .answer) (p .table) (tested (lineFrame l) (lineCores l) (lineBudgets l) (lineMasks l) lentTable) (p .planned) (λ z. n (ap numberOf (sym e ∙ z))))
+  bare-line a e n = line-of a e ∙ ap (answerLine a) none
+    where
+      none : shown-pieces (p .answer) (p .table) ≡ []
+      none =
+          refuses-at (lineFrame l) (lineCores l) (lineBudgets l) (lineMasks l) lentTable (p .answer) (p .table)
+          (tested (lineFrame l) (lineCores l) (lineBudgets l) (lineMasks l) lentTable) (p .planned) (λ z. n (ap numberOf (sym e ∙ z)))
 
   pub line-four-named : field x 0 1 ≡ 4 → SizedLine × EmptyAt (lineMasks l) (field x 1 1)
   line-four-named e =

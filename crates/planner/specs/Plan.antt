@@ -1,4 +1,4 @@
--- What the tests 1 to 6 leave for the search and the table.
+-- What the tests leave for the search and the table.
 -- Assumes nothing.
 use mathlib.Core.Path.{_≡_}
 use mathlib.Core.List.{List, _++_}

@@ -9,7 +9,7 @@ use native.Mathlib.Omega.{arith}
 use Rattle.rules.specs.Answer.{numberOf}
 use Rattle.rules.specs.Tests.{Tested, refused, passed, tested}
 use Rattle.rules.specs.MaskFaults.{Sized, EmptyAt, MissingAt, GoodMasks, afterMasks}
-use Rattle.rules.specs.Plan.{at, Decided, planned, overloaded, PlanAnswer, PlanAnswerAt}
+use Rattle.rules.specs.Plan.{at, planned, overloaded, PlanAnswer, PlanAnswerAt}
 use Rattle.rules.specs.Reply.{replyOf}
 use Rattle.rules.specs.Replies.{PlanReply}
 use Rattle.rules.specs.declared.Answer.{Answer}
@@ -17,7 +17,7 @@ use Rattle.rules.specs.declared.Answer.the-variants.{EmptyMask, MissingCore}
 use Rattle.rules.specs.declared.Planned.{Planned}
 use Rattle.rules.specs.declared.Reply.{Reply}
 use Rattle.tests.proofs.Cases.{numberTold}
-use Rattle.tests.proofs.MaskFaults.{FourSays, tested-four, four-tested, ThirteenSays, tested-thirteen, thirteen-tested, tested-later}
+use Rattle.tests.proofs.MaskFaults.{tested-four, four-tested, tested-thirteen, thirteen-tested, tested-later}
 
 module _ (F m : ℕ) (budgets masks before : List ℕ) (r : Planned) (after : List ℕ) where
   -- a number that is neither 0 nor 7 is the tests'

@@ -48,7 +48,7 @@ check-accepts F m l a b c d e = rw (ne-eqb F 0 (some a), le-ltb 1000000 F b, ne-
     some : {k : ℕ} → 1 ≤ k → k ≡ 0 → ⊥
     some h z = omega arith
 
--- a set that passed the tests 1 to 6, planned by the allocation x
+-- a set that passed the tests, planned by the allocation x
 module _ (F m : ℕ) (budgets masks before : List ℕ) (pass : tested F m budgets masks before ≡ passed) (r : Planned) (after : List ℕ) (x : ℕ → ℕ → ℕ)
     (p : PlannedBy F m budgets masks before r after x) where
   d : Admitted F m budgets masks before

@@ -46,7 +46,7 @@ module _ (F m : ℕ) (budgets masks : List ℕ) where
     planned : (x : ℕ → ℕ → ℕ) → PlannedBy before r after x → Decided before r after
     overloaded : (g : ℕ) → OverloadedBy before r after g → Decided before r after
 
--- by what the tests 1 to 6 say
+-- by what the tests say
 abbrev pub PlanAnswerAt : Tested → ℕ → ℕ → List ℕ → List ℕ → List ℕ → Planned → List ℕ → Type 0
 PlanAnswerAt (refused a) F m budgets masks before r after = Refusal a before r after
 PlanAnswerAt passed F m budgets masks before r after = Decided F m budgets masks before r after

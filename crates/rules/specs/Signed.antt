@@ -52,7 +52,7 @@ pub record NamedGroup (F m : ℕ) (budgets masks : List ℕ) (g c : ℕ) : Type 
 abbrev pub NoneObeys : ℕ → ℕ → List ℕ → List ℕ → Type 0
 NoneObeys F m budgets masks = (ps : List Piece) → Obeys F (length budgets) m (at budgets) (at masks) ps → ⊥
 
--- a set that passed the tests 1 to 6: "overload is refused exactly when no such table exists, with the smallest group of greatest excess"
+-- a set that passed the tests: "overload is refused exactly when no such table exists, with the smallest group of greatest excess"
 pub record RefusedExactly (F m : ℕ) (budgets masks : List ℕ) (a : Answer) : Type 0 where
   pub refused-has-none : numberOf a ≡ 7 → NoneObeys F m budgets masks
   pub none-is-refused : NoneObeys F m budgets masks → numberOf a ≡ 7

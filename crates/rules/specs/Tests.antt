@@ -63,7 +63,7 @@ missingTask m masks = firstAt (pastCores m) masks
 abbrev pub missingCore : ℕ → List ℕ → ℕ
 missingCore m masks = lowestMissing m (getD masks (missingTask m masks) 0)
 
--- the tests 1 to 5, which look at the set alone, in their order: 13 is "tested after 4 over all tasks and before 5"
+-- the tests that look at the set alone, in their order: 13 is "tested after 4 over all tasks and before 5"
 unfoldable pub testedSet : ℕ → ℕ → List ℕ → List ℕ → Tested
 testedSet F m budgets masks =
     cond (badFrame F) (refused FrameLength)

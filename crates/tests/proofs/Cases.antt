@@ -41,7 +41,7 @@ ways P false false false false false false false i a j d p1 p2 p3 p4 p13 p5 p6 p
 
 module _ (F m : ℕ) (budgets masks table : List ℕ) where
   -- no mask is empty, and none names a missing core
-  pub record Sound : Type 0 where
+  pub record FaultFree : Type 0 where
     pub not-empty : ltb (firstAt emptyMask masks) (length masks) ≡ false
     pub not-missing : ltb (missingTask m masks) (length masks) ≡ false
 
@@ -49,9 +49,9 @@ module _ (F m : ℕ) (budgets masks table : List ℕ) where
       → (Sized F m budgets masks → ltb (firstAt emptyMask masks) (length masks) ≡ true → P (refused (EmptyMask (firstAt emptyMask masks))))
       → (Sized F m budgets masks → ltb (firstAt emptyMask masks) (length masks) ≡ false → ltb (missingTask m masks) (length masks) ≡ true
       → P (refused (MissingCore (missingTask m masks) (missingCore m masks))))
-      → (Sized F m budgets masks → Sound → ltb (firstAt (badBudget F) budgets) (length budgets) ≡ true → P (refused (Budget (firstAt (badBudget F) budgets))))
-      → (Sized F m budgets masks → Sound → shortTable (length budgets) m (wholePieces table) ≡ true → P (refused ShortTable))
-      → (Sized F m budgets masks → Sound → P passed) → P (tested F m budgets masks table)
+      → (Sized F m budgets masks → FaultFree → ltb (firstAt (badBudget F) budgets) (length budgets) ≡ true → P (refused (Budget (firstAt (badBudget F) budgets))))
+      → (Sized F m budgets masks → FaultFree → shortTable (length budgets) m (wholePieces table) ≡ true → P (refused ShortTable))
+      → (Sized F m budgets masks → FaultFree → P passed) → P (tested F m budgets masks table)
   unfolding tested testedSet
   tested-cases P p1 p2 p3 p4 p13 p5 p6 p =
       ways P (badFrame F) (badCores m) (badTasks budgets masks) (ltb (firstAt emptyMask masks) (length masks)) (ltb (missingTask m masks) (length masks))
@@ -62,5 +62,5 @@ module _ (F m : ℕ) (budgets masks table : List ℕ) where
       sized : badFrame F ≡ false → badCores m ≡ false → badTasks budgets masks ≡ false → Sized F m budgets masks
       sized f c t = record { frame = f; cores = c; tasks = t }
 
-      sound : ltb (firstAt emptyMask masks) (length masks) ≡ false → ltb (missingTask m masks) (length masks) ≡ false → Sound
+      sound : ltb (firstAt emptyMask masks) (length masks) ≡ false → ltb (missingTask m masks) (length masks) ≡ false → FaultFree
       sound e k = record { not-empty = e; not-missing = k }

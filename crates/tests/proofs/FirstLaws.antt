@@ -1,6 +1,6 @@
 -- The laws by which a loop seeks the first place where a test passes.
 -- Assumes nothing.
-use mathlib.Core.Path.{_≡_, refl, sym, _∙_, ap}
+use mathlib.Core.Path.{_≡_, refl, _∙_, ap}
 use mathlib.Core.Bool.{Bool, true, false}
 use mathlib.Core.List.{List, [], _∷_}
 use Prim.Native.Nat.{ℕ, zero, suc, _+_, _≤_, _<_}
@@ -11,11 +11,11 @@ use lib.Seq.{drop-cons}
 use Rattle.rules.specs.Sum.{firstAt}
 
 module _ (p : ℕ → Bool) where
-  pub first-cons-hit : (a : ℕ) (l : List ℕ) → p a ≡ true → firstAt p (a ∷ l) ≡ 0
+  first-cons-hit : (a : ℕ) (l : List ℕ) → p a ≡ true → firstAt p (a ∷ l) ≡ 0
   unfolding firstAt
   first-cons-hit a l e = rw (e, firstAt)
 
-  pub first-cons-miss : (a : ℕ) (l : List ℕ) → p a ≡ false → firstAt p (a ∷ l) ≡ suc (firstAt p l)
+  first-cons-miss : (a : ℕ) (l : List ℕ) → p a ≡ false → firstAt p (a ∷ l) ≡ suc (firstAt p l)
   unfolding firstAt
   first-cons-miss a l e = rw (e, firstAt)
 

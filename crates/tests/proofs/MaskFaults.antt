@@ -1,26 +1,25 @@
 -- Document 02, (ii): 4 exactly at an empty mask, and 13 exactly where none is empty and some mask names a missing core, each with its lowest task, and
 -- 13 with the lowest such core of that task's mask; of the tests. (Of plan's answer: promises, MaskFaults.)
 -- Assumes nothing.
-use mathlib.Core.Path.{_≡_, refl, sym, _∙_, ap, subst}
-use mathlib.Core.Bool.{Bool, true, false, cond, not, true≢false}
+use mathlib.Core.Path.{_≡_, refl, sym, _∙_}
+use mathlib.Core.Bool.{Bool, true, false, true≢false}
 use mathlib.Core.List.{List}
-use Prim.Native.Nat.{ℕ, _+_, _/_, _^_, _≤_, _<_}
+use Prim.Native.Nat.{ℕ, _/_, _^_, _≤_, _<_}
 use native.Mathlib.Nat.{div-eq-of-lt}
 use native.Mathlib.Decide.{decLt}
 use native.Mathlib.Omega.{arith}
-use borrow.Author.Tests.{eqb-true, eqb-false, eq-eqb, ne-eqb, ltb-true, ltb-false, lt-ltb, le-ltb}
+use borrow.Author.Tests.{eqb-true, eqb-false, eq-eqb, ne-eqb, ltb-true, lt-ltb, le-ltb}
 use lib.Dec.{eqb, ltb}
-use lib.ListN.{length, getD}
+use lib.ListN.{length}
 use Rattle.rules.specs.Sum.{firstAt, lowest}
 use Rattle.rules.specs.Sets.{has}
-use Rattle.rules.specs.Piece.{wholePieces}
 use Rattle.rules.specs.Plan.{at}
-use Rattle.rules.specs.Tests.{Tested, refused, passed, badFrame, badCores, badTasks, emptyMask, pastCores, lowestMissing, missingTask, missingCore, badBudget, shortTable, testedSet, thenRoom, tested}
+use Rattle.rules.specs.Tests.{Tested, refused, emptyMask, pastCores, lowestMissing, missingTask, missingCore, testedSet, tested}
 use Rattle.rules.specs.MaskFaults.{Sized, Misses, EmptyAt, MissingAt, GoodMasks, afterMasks}
 use Rattle.rules.specs.declared.Answer.the-variants.{EmptyMask, MissingCore}
 use Rattle.sums.proofs.Lowest.{lowest-past, lowest-found, lowest-hit, lowest-none, lowest-before}
 use Rattle.sums.proofs.Sets.{has-zero, has-one, has-above, has-below, below-of-bits}
-use Rattle.tests.proofs.Cases.{numberTold, Sound, tested-cases}
+use Rattle.tests.proofs.Cases.{numberTold, FaultFree, tested-cases}
 use Rattle.tests.proofs.FirstLaws.{first-passes, first-before, first-is, first-nowhere}
 use Rattle.tests.proofs.MaskLaws.{missing}
 use Rattle.tests.proofs.PassedLaws.{none-at, narrow-mask}
@@ -144,7 +143,7 @@ module _ (F m : ℕ) (budgets masks table : List ℕ) where
       first = first-is emptyMask masks i (x .task) (empty-true i (x .empty)) (λ k l. empty-false k (x .lowest k l))
 
   -- no mask is empty, and none names a missing core
-  good : Sound F m budgets masks table → GoodMasks m masks
+  good : FaultFree F m budgets masks table → GoodMasks m masks
   good g =
       record {
         none-empty = λ k l. empty-none k (none-at emptyMask masks (g .not-empty) k l);
@@ -159,13 +158,13 @@ module _ (F m : ℕ) (budgets masks table : List ℕ) where
   pub tested-later : afterMasks (numberTold said) ≡ true → LaterSays
   unfolding afterMasks
   tested-later n =
-      tested-cases F m budgets masks table (λ t. afterMasks (numberTold t) ≡ true → LaterSays) not not not (λ z e. not) (λ z e k. not) (λ z g b n. later z g) (λ z g s n. later z g)
+      tested-cases F m budgets masks table (λ t. afterMasks (numberTold t) ≡ true → LaterSays) other other other (λ z e. other) (λ z e k. other) (λ z g b n. later z g) (λ z g s n. later z g)
       (λ z g n. later z g) n
     where
-      not : false ≡ true → LaterSays
-      not e = absurd (true≢false (sym e))
+      other : false ≡ true → LaterSays
+      other e = absurd (true≢false (sym e))
 
-      later : Sized F m budgets masks → Sound F m budgets masks table → LaterSays
+      later : Sized F m budgets masks → FaultFree F m budgets masks table → LaterSays
       later z g = record { sized = z; good = good g }
 
   -- masks are numbers of 16 bits

@@ -1,7 +1,7 @@
 -- Laws on the test of one mask: how its lowest missing core is found, and what the test says.
 -- Assumes nothing.
 use mathlib.Core.Path.{_≡_, refl, sym, _∙_, ap}
-use mathlib.Core.Bool.{Bool, true, false, cond}
+use mathlib.Core.Bool.{cond}
 use Prim.Native.Nat.{ℕ, _+_, _/_, _^_, _≤_, _<_}
 use native.Mathlib.Omega.{arith}
 use borrow.Author.Tests.{eq-eqb, ne-eqb, lt-ltb, le-ltb}
@@ -12,7 +12,7 @@ use Rattle.rules.specs.Sets.{has}
 use Rattle.rules.specs.Tests.{emptyMask, pastCores, lowestMissing, maskTested}
 use Rattle.rules.specs.declared.MaskTest.{MaskTest}
 use Rattle.rules.specs.declared.MaskTest.the-variants.{Good, Empty, Missing}
-use Rattle.sums.proofs.Sets.{has-zero, bit-has}
+use Rattle.sums.proofs.Sets.{bit-has}
 use Rattle.sums.proofs.Lowest.{lowest-past, lowest-more, lowest-found, lowest-ended}
 
 -- 1 for a missing core of the mask, else 0: its lowest is sought

@@ -2,8 +2,8 @@
 -- Assumes nothing.
 use mathlib.Core.Path.{_≡_, refl, sym, subst}
 use mathlib.Core.Bool.{Bool, true, false, cond, not}
-use mathlib.Core.List.{List, [], _∷_}
-use Prim.Native.Nat.{ℕ, zero, suc, _+_, _*_, _/_, _%_, _^_, _≤_, _<_}
+use mathlib.Core.List.{List}
+use Prim.Native.Nat.{ℕ, _+_, _*_, _/_, _%_, _^_, _≤_, _<_}
 use native.Mathlib.Nat.{mod-lt}
 use native.Mathlib.Omega.{arith}
 use borrow.Author.Tests.{eqb-false, eqb-true, ltb-false, not-false}
@@ -18,7 +18,7 @@ use Rattle.rules.specs.declared.Answer.{Answer}
 use Rattle.rules.specs.declared.Answer.the-variants.{FrameLength, CoreCount, TaskCount, EmptyMask, Budget, ShortTable, MissingCore}
 use Rattle.sums.proofs.Both.{or-left, or-right}
 use Rattle.tests.specs.Given.{Given, Admitted}
-use Rattle.tests.proofs.FirstLaws.{first-cons-hit, first-cons-miss}
+use Rattle.tests.proofs.FirstLaws.{first-before}
 
 never : (a : Answer) → refused a ≡ passed → ⊥
 never a e = let z : _≡_ {A = ℕ} 0 1 = cc in omega arith
@@ -28,24 +28,9 @@ passes : (b : Bool) (a : Answer) (t : Tested) → cond b (refused a) t ≡ passe
 passes true a t e = absurd (never a e)
 passes false a t e = (refl, e)
 
-head-fails : (p : ℕ → Bool) (a : ℕ) (s : List ℕ) (b : Bool) → p a ≡ b → suc (length s) ≤ firstAt p (a ∷ s) → (p a ≡ false) × (length s ≤ firstAt p s)
-head-fails p a s true e h = absurd (short (first-cons-hit p a s e) h)
-  where
-    short : {k n : ℕ} → k ≡ 0 → suc n ≤ k → ⊥
-    short e h = omega arith
-head-fails p a s false e h = (e, omega (arith, first-cons-miss p a s e))
-
-none-from : (p : ℕ → Bool) (s : List ℕ) → length s ≤ firstAt p s → (i : ℕ) → i < length s → p (getD s i 0) ≡ false
-none-from p [] h i l = absurd (nothing l)
-  where
-    nothing : {i : ℕ} → i < 0 → ⊥
-    nothing l = omega arith
-none-from p (a ∷ s) h zero l = head-fails p a s (p a) refl h .0
-none-from p (a ∷ s) h (suc i) l = none-from p s (head-fails p a s (p a) refl h .1) i (omega arith)
-
 -- where no place passes, the test fails at each
 pub none-at : (p : ℕ → Bool) (s : List ℕ) → ltb (firstAt p s) (length s) ≡ false → (i : ℕ) → i < length s → p (getD s i 0) ≡ false
-none-at p s e i l = none-from p s (ltb-false _ _ e) i l
+none-at p s e i l = first-before p s i (omega (arith, l, ltb-false (firstAt p s) (length s) e))
 
 -- a mask that shifted right by m leaves nothing
 pub narrow-mask : (m mask : ℕ) → pastCores m mask ≡ false → mask < 2 ^ m
@@ -121,7 +106,7 @@ module _ (F m : ℕ) (budgets masks : List ℕ) (e : testedSet F m budgets masks
 pub passed-sizes : (F m : ℕ) (budgets masks : List ℕ) → passed ≡ testedSet F m budgets masks → (m ≤ 16) × (length budgets ≤ 64)
 passed-sizes F m budgets masks e = let g = passed-set F m budgets masks (sym e) in (g .cores, g .tasks)
 
--- where the tests 1 to 6 are passed, 1 to 5 are, and there is room
+-- where all tests are passed, those of the set are, and there is room
 room-passed : (b : Bool) (t : Tested) → thenRoom b t ≡ passed → (t ≡ passed) × (b ≡ false)
 room-passed b (refused a) e = absurd (never a e)
 room-passed b passed e = (refl, passes b ShortTable passed e .0)

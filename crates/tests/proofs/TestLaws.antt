@@ -1,6 +1,6 @@
 -- The laws by which the tests of the code, one after another, are the tests of the rules.
 -- Assumes nothing.
-use mathlib.Core.Path.{_≡_, refl, sym, _∙_, ap}
+use mathlib.Core.Path.{_≡_, refl, _∙_, ap}
 use mathlib.Core.Bool.{Bool, true, false, cond}
 use mathlib.Core.List.{List}
 use Prim.Native.Nat.{ℕ, _+_, _*_, _/_, _≤_, _<_}
@@ -8,7 +8,7 @@ use borrow.Author.Tests.{eq-eqb, ne-eqb, lt-ltb, le-ltb}
 use lib.Dec.{ltb}
 use lib.ListN.{length}
 use Rattle.rules.specs.Sum.{firstAt}
-use Rattle.rules.specs.Tests.{Tested, refused, passed, badFrame, badCores, badTasks, emptyMask, missingTask, missingCore, badBudget, shortTable, testedSet, thenRoom, tested}
+use Rattle.rules.specs.Tests.{Tested, refused, passed, badFrame, badCores, badTasks, emptyMask, missingTask, missingCore, shortTable, testedSet, thenRoom, tested}
 use Rattle.rules.specs.Piece.{wholePieces}
 use Rattle.rules.specs.declared.Answer.{Answer}
 use Rattle.rules.specs.declared.Answer.the-variants.{FrameLength, CoreCount, TaskCount, EmptyMask, ShortTable, MissingCore}
@@ -74,7 +74,7 @@ module _ (n m : ℕ) (table : List ℕ) where
   unfolding shortTable
   by-enough r = rw (le-ltb _ _ r)
 
--- the tests 1 to 5, then 6
+-- the tests that look at the set alone, then 6
 module _ (F m : ℕ) (budgets masks table : List ℕ) where
   pub by-set : (a : Answer) → refused a ≡ testedSet F m budgets masks → refused a ≡ tested F m budgets masks table
   unfolding tested

@@ -6,7 +6,7 @@ use Prim.Native.Nat.{ℕ, _+_, _*_, _/_, _^_, _≤_, _<_}
 use lib.ListN.{length}
 use Rattle.rules.specs.Plan.{at}
 
--- what the tests 1 to 5 leave: frame, cores and tasks within their sizes, masks below 2^m, budgets within the frame
+-- what the tests of the set leave: frame, cores and tasks within their sizes, masks below 2^m, budgets within the frame
 pub record Given (F m : ℕ) (budgets masks : List ℕ) : Type 0 where
   pub frame-some : 1 ≤ F
   pub frame : F ≤ 1000000
@@ -17,7 +17,7 @@ pub record Given (F m : ℕ) (budgets masks : List ℕ) : Type 0 where
   pub narrow : (i : ℕ) → i < length budgets → at masks i < 2 ^ m
   pub small : (i : ℕ) → i < length budgets → at budgets i ≤ F
 
--- what the tests 1 to 6 leave
+-- .. and the room that 6 asks
 pub record Admitted (F m : ℕ) (budgets masks table : List ℕ) : Type 0 where
   pub given : Given F m budgets masks
   pub room : length budgets + 2 * m ≤ length table / 4 + 1

@@ -110,7 +110,7 @@ fn test_tasks(frame: u32, cores: u32, budgets: &[u32], masks: &[u16]) -> Verdict
     first_refusal(empty, later)
 }
 
-// The tests 1 to 5, which look at the set alone.
+// The tests 1, 2, 3, 4, 13 and 5, which look at the set alone.
 pub fn test_set(frame: u32, cores: u32, budgets: &[u32], masks: &[u16]) -> Verdict
     ensures { λ r. ⌜ verdictOf r ≡ testedSet frame cores (now (budgets .entry)) (now (masks .entry)) ⌝ }
 {
@@ -146,7 +146,7 @@ fn test_room(cores: u32, tasks: usize, table: &[u32]) -> Verdict
     Verdict::Passed
 }
 
-// The tests 1 to 6.
+// All tests: 6 after those.
 pub fn test_plan(frame: u32, cores: u32, budgets: &[u32], masks: &[u16], table: &[u32]) -> Verdict
     ensures { λ r. ⌜ verdictOf r ≡ tested frame cores (now (budgets .entry)) (now (masks .entry)) (now (table .entry)) ⌝ }
 {

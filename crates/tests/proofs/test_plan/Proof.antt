@@ -1,4 +1,4 @@
--- The tests 1 to 5 decide, or the test 6 does. Assumes nothing.
+-- The tests of the set decide, or the test 6 does. Assumes nothing.
 use Rattle.tests.proofs.TestLaws.{by-set, by-six}
 use Rattle.tests.proofs.PassedLaws.{passed-sizes}
 use borrow.Author.Needs.{needs}

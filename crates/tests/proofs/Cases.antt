@@ -56,11 +56,11 @@ module _ (F m : ℕ) (budgets masks table : List ℕ) where
   tested-cases P p1 p2 p3 p4 p13 p5 p6 p =
       ways P (badFrame F) (badCores m) (badTasks budgets masks) (ltb (firstAt emptyMask masks) (length masks)) (ltb (missingTask m masks) (length masks))
       (ltb (firstAt (badBudget F) budgets) (length budgets)) (shortTable (length budgets) m (wholePieces table)) (firstAt emptyMask masks) (missingTask m masks) (missingCore m masks)
-      (firstAt (badBudget F) budgets) p1 p2 p3 (λ f c t e. p4 (sized f c t) e) (λ f c t e k. p13 (sized f c t) e k) (λ f c t e k b. p5 (sized f c t) (sound e k) b)
-      (λ f c t e k s. p6 (sized f c t) (sound e k) s) (λ f c t e k. p (sized f c t) (sound e k))
+      (firstAt (badBudget F) budgets) p1 p2 p3 (λ f c t e. p4 (sized f c t) e) (λ f c t e k. p13 (sized f c t) e k) (λ f c t e k b. p5 (sized f c t) (free e k) b)
+      (λ f c t e k s. p6 (sized f c t) (free e k) s) (λ f c t e k. p (sized f c t) (free e k))
     where
       sized : badFrame F ≡ false → badCores m ≡ false → badTasks budgets masks ≡ false → Sized F m budgets masks
       sized f c t = record { frame = f; cores = c; tasks = t }
 
-      sound : ltb (firstAt emptyMask masks) (length masks) ≡ false → ltb (missingTask m masks) (length masks) ≡ false → FaultFree
-      sound e k = record { not-empty = e; not-missing = k }
+      free : ltb (firstAt emptyMask masks) (length masks) ≡ false → ltb (missingTask m masks) (length masks) ≡ false → FaultFree
+      free e k = record { not-empty = e; not-missing = k }

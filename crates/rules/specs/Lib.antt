@@ -15,6 +15,7 @@ pub mod Paced
 pub mod Obeys
 pub mod Layout
 pub mod Table
+pub mod Taken
 pub mod Tests
 pub mod Plan
 pub mod MaskFaults

@@ -1,4 +1,6 @@
 // An answer's line: "Out, one line for each: the number (1 byte)", and what stands after it.
+#![tactic(auto)]
+
 ghost use Rattle.std.specs.Prelude.{◌≡◌, ◌+◌, ◌*◌, ◌≤◌, length};
 ghost use Rattle.rules.specs.Sizes.{max_pieces};
 ghost use Rattle.rules.specs.Piece.{first_pieces, piece_at};

@@ -1,5 +1,7 @@
 // Standard input to standard output: each line asks for a table check, a move count or a walk, and one answer line is written for it.
 // The lines are those of second/README.md, whose program judges the answers. Proved here: no line makes the program fail, and it ends.
+#![tactic(auto)]
+
 mod answers;
 mod lent;
 mod lines;

@@ -1,4 +1,6 @@
 // Whether units may be laid out as a table: sizes, rows, columns and room, by one look at each row and one at each column. A unit may be any 32-bit number, so the sums are of 64 bits.
+#![tactic(auto)]
+
 ghost use Rattle.std.specs.Prelude.{◌≡◌, ◌^◌, ◌≤◌, ◌<◌};
 ghost use Rattle.rules.specs.Sizes.{max_tasks, max_cores};
 ghost use Rattle.rules.specs.Sum.{positive};

@@ -1,4 +1,6 @@
 // From units to the table of pieces: document 01, "From allocation to table", for any units that fit.
+#![tactic(auto)]
+
 mod before;
 mod laying;
 mod pieces;

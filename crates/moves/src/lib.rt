@@ -1,5 +1,7 @@
 // The move count over any lent table, and the search for a task's next piece: one flat list, four numbers a piece (core, task, start, length).
 // The moves of a list are counted only once the table check has accepted it.
+#![tactic(auto)]
+
 ghost use Rattle.std.specs.Prelude.{◌≡◌, cond, ◌<◌, ◌≤◌, eqb};
 ghost use Rattle.rules.specs.Piece.{pieces_of, whole_pieces};
 ghost use Rattle.rules.specs.Moves.{by_start, changes, moves};

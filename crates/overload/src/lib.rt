@@ -1,5 +1,7 @@
 // Overload: when no allocation exists, which group says so, and how far the budgets of a group exceed its cores.
 // "For a group of tasks let its excess be the sum of its budgets less F × the number of cores in the union of its masks."
+#![tactic(auto)]
+
 ghost use Rattle.std.specs.Prelude.{◌≡◌, min, ◌*◌, ◌-◌, ◌^◌, ◌<◌, length};
 ghost use Rattle.rules.specs.Allocation.{limit_of};
 ghost use Rattle.rules.specs.Plan.{at};

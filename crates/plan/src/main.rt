@@ -1,4 +1,6 @@
 // Standard input to standard output: one answer line for each line. Document 01, "Lines".
+#![tactic(auto)]
+
 mod lines;
 
 ghost use Rattle.std.specs.Prelude.{◌≤◌, length};

@@ -1,4 +1,6 @@
 // The planner: from a set of tasks to its frame table, or to a numbered refusal.
+#![tactic(auto)]
+
 mod cycle;
 mod decide;
 mod flow;

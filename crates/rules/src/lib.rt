@@ -1,5 +1,7 @@
 // The answers of every call, by value. What each number and each carried value means stands in specs/Answer.antt;
 // the rules of document 01 stand in specs/, one idea a file. There is almost no code here.
+#![tactic(auto)]
+
 ghost use Rattle.std.specs.Prelude.{◌≡◌};
 ghost use Rattle.rules.specs.Answer.{number_of};
 

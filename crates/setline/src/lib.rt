@@ -1,4 +1,6 @@
 // A set's line read: "In: F (4 bytes), m (1), n (1), then per task budget (4) and mask (2)".
+#![tactic(auto)]
+
 ghost use Rattle.std.specs.Prelude.{◌≡◌, ◌+◌, ◌*◌, ◌≤◌, ◌<◌, length};
 ghost use Rattle.rules.specs.Line.{well_written};
 ghost use Rattle.setline.specs.Decoded.{Headed, TaskAt, Tasked};

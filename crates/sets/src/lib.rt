@@ -1,5 +1,7 @@
 // Sets of cores (16 bits, bit j for core j) and of tasks (64 bits, bit i for task i), by shifts and masks. A number past the width is no
 // member and adds nothing.
+#![tactic(auto)]
+
 ghost use Rattle.std.specs.Prelude.{◌≡◌, ◌<◌};
 ghost use Rattle.rules.specs.Sets.{has};
 ghost use Rattle.sets.specs.Joined.{joined};

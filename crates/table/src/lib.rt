@@ -1,5 +1,7 @@
 // The table check over any lent table: one flat list, four numbers a piece (core, task, start, length).
 // Nothing of a lent table is trusted: each length, each number is tested before it counts.
+#![tactic(auto)]
+
 ghost use Rattle.std.specs.Prelude.{◌≡◌, ◌&&◌, ◌<◌};
 ghost use Rattle.rules.specs.Piece.{piece_at, whole_pieces};
 ghost use Rattle.rules.specs.FrameTable.{sound, ordered, overlap, core_apart, task_apart, frame_table};

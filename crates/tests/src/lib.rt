@@ -1,4 +1,6 @@
 // The tests 1, 2, 3, 4, 13, 5, 6 of documents 01 and 02, in this order, each over all tasks before the next.
+#![tactic(auto)]
+
 ghost use Rattle.std.specs.Prelude.{◌≡◌, ◌+◌, ◌/◌, ◌≤◌, ◌<◌};
 ghost use Rattle.rules.specs.Piece.{whole_pieces};
 ghost use Rattle.rules.specs.Tests.{lowest_missing, mask_tested, short_table, passed, tested_set, then_room, tested};

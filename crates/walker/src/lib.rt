@@ -1,5 +1,7 @@
 // The job walker: "The table repeats from instant 0." A job costs two passes at most over the walked task's own pieces,
 // however far away its finish lies: one for the units before its begin, one for the last unit that it asks.
+#![tactic(auto)]
+
 mod clock;
 mod joblist;
 mod service;

@@ -6,7 +6,7 @@ ghost use Rattle.fields.specs.Reading.{started, taken};
 use crate::number::{field_at, past_field};
 
 // The line, the byte where the next field begins, and the field that was taken last.
-#[derive(Drop)]
+#[derive(Clone, Copy)]
 pub struct Reader<'a> {
     line: &'a [u8],
     at: usize,

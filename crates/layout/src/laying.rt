@@ -12,7 +12,7 @@ use crate::pieces::{Part, add_stretch};
 use crate::walking::walk;
 
 // A core to be laid: its number, where it starts, the task in front plus 1 or 0 for a root, and the pieces of the table before its own.
-#[derive(Drop)]
+#[derive(Clone, Copy)]
 struct Core {
     pub core: usize,
     pub at: u32,

@@ -12,7 +12,7 @@ use crate::before::{ahead_of_task, ahead_on_core};
 use sets::{core_in, task_in, with_core, with_task};
 
 // Which cores were visited, which were reached, and which tasks were met.
-#[derive(Drop)]
+#[derive(Clone, Copy)]
 pub(crate) struct Marks {
     pub visited: u16,
     pub reached: u16,

@@ -7,7 +7,7 @@ ghost use Rattle.rules.specs.Answer.{number_of};
 
 // "one of accepted, refused, refused with a place, or overloaded with its group": the cases carry nothing,
 // a task or job number, a task with a core, or a task set with its cores. A table or a list of finishes stands beside the answer.
-#[derive(Drop)]
+#[derive(Clone, Copy)]
 pub enum Answer {
     Accepted,
     FrameLength,

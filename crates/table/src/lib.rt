@@ -11,7 +11,7 @@ ghost use Rattle.table.specs.Read.{piece_of, together, follows};
 use rules::Answer;
 
 // One piece of a table: on this core this task runs from start on for len units.
-#[derive(Drop)]
+#[derive(Clone, Copy)]
 pub(crate) struct Stretch {
     pub core: u32,
     pub task: u32,

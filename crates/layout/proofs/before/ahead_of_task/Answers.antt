@@ -1,6 +1,7 @@
 -- `before::ahead_of_task` meets its contract.
-use Rattle.std.proofs.Common.{rules, arith, refl, sym, ap, ◌∙◌, subst, inl, inr}
-use Rattle.std.proofs.lemmas.Grind.{common_steps}
+use Rattle.stretches.specs.Cell.{cell}
+use Rattle.stretches.specs.Cell.{cell}
+use Rattle.std.proofs.Common.{rules}
 use Rattle.layout.proofs.AheadLaws.{task_itself, task_after, sum_part, task_fits}
 use Rattle.layout.proofs.before.ahead_of_task.Goals as goal
 
@@ -14,4 +15,4 @@ pub overflow_add-result-2 : goal.overflow_add-result-2
 overflow_add-result-2 c = search (task_fits, rules)
 
 pub returns : goal.returns
-returns c = ?
+returns c = task_after (cell c.args.units.now c.args.task) _ _ _ _ c.if-core-met.false c.requires.2 c.requires.3 c.requires.4 c.row.ensures

@@ -1,5 +1,4 @@
-use Rattle.std.proofs.Common.{rules, arith, refl, sym, ap, ◌∙◌, subst, inl, inr}
-use Rattle.std.proofs.lemmas.Grind.{common_steps}
+use Rattle.std.proofs.Common.{rules}
 use Rattle.sums.proofs.SumLoops.{sum_none, put_fits, sum_more}
 use Rattle.layout.proofs.before.row.Goals as goal
 

@@ -1,5 +1,4 @@
-use Rattle.std.proofs.Common.{rules, arith, refl, sym, ap, ◌∙◌, subst, inl, inr}
-use Rattle.std.proofs.lemmas.Grind.{common_steps}
+use Rattle.std.proofs.Common.{rules}
 use Rattle.layout.proofs.LayLaws.{laid_begin, laid_asks, laid_more}
 use Rattle.layout.proofs.laying.lay_core.Goals as goal
 

@@ -1,5 +1,4 @@
-use Rattle.std.proofs.Common.{rules, arith, refl, sym, ap, ◌∙◌, subst, inl, inr}
-use Rattle.std.proofs.lemmas.Grind.{common_steps}
+use Rattle.std.proofs.Common.{rules, arith}
 use Rattle.layout.proofs.LayLaws.{cores_begin, cores_asks, cores_more}
 use Rattle.layout.proofs.laying.lay_cores.Goals as goal
 

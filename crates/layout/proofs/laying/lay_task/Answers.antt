@@ -1,6 +1,4 @@
 -- `laying::lay_task` meets its contract: no piece without units, else those of the stretch.
-use Rattle.std.proofs.Common.{rules, arith, refl, sym, ap, ◌∙◌, subst, inl, inr}
-use Rattle.std.proofs.lemmas.Grind.{common_steps}
 use Rattle.layout.proofs.LayLaws.{task_none, stretch_asked, task_some}
 use Rattle.layout.proofs.laying.lay_task.Goals as goal
 

@@ -1,5 +1,4 @@
-use Rattle.std.proofs.Common.{rules, arith, refl, sym, ap, ◌∙◌, subst, inl, inr}
-use Rattle.std.proofs.lemmas.Grind.{common_steps}
+use Rattle.std.proofs.Common.{rules}
 use Rattle.layout.proofs.GapLaws.{gap_begin, gap_more}
 use Rattle.layout.proofs.pieces.open_gap.Goals as goal
 

@@ -1,6 +1,5 @@
 -- `walking::next_core` meets its contract.
-use Rattle.std.proofs.Common.{rules, arith, refl, sym, ap, ◌∙◌, subst, inl, inr}
-use Rattle.std.proofs.lemmas.Grind.{common_steps}
+use Rattle.std.proofs.Common.{rules}
 use Rattle.layout.proofs.WalkLaws.{next_waiting, next_left}
 use Rattle.layout.proofs.walking.next_core.Goals as goal
 

@@ -1,5 +1,4 @@
-use Rattle.std.proofs.Common.{rules, arith, refl, sym, ap, ◌∙◌, subst, inl, inr}
-use Rattle.std.proofs.lemmas.Grind.{common_steps}
+use Rattle.std.proofs.Common.{rules}
 use Rattle.layout.proofs.WalkLaws.{reach_begin, reach_on, reach_more, reach_done}
 use Rattle.layout.proofs.walking.reach_cores.Goals as goal
 

@@ -1,5 +1,4 @@
-use Rattle.std.proofs.Common.{rules, arith, refl, sym, ap, ◌∙◌, subst, inl, inr}
-use Rattle.std.proofs.lemmas.Grind.{common_steps}
+use Rattle.std.proofs.Common.{rules}
 use Rattle.layout.proofs.WalkLaws.{meet_begin, marked_meets, meet_asks, meet_more, meet_done, visit_done}
 use Rattle.layout.proofs.walking.visit_core.Goals as goal
 

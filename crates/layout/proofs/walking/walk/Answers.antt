@@ -1,5 +1,4 @@
-use Rattle.std.proofs.Common.{rules, arith, refl, sym, ap, ◌∙◌, subst, inl, inr}
-use Rattle.std.proofs.lemmas.Grind.{common_steps}
+use Rattle.std.proofs.Common.{rules}
 use Rattle.layout.proofs.WalkLaws.{walk_begin, walk_asks, walk_more, walk_done}
 use Rattle.layout.proofs.walking.walk.Goals as goal
 

@@ -1,4 +1,5 @@
-// The input in chunks, through a reader that is lent. A last line without a line feed is given one, so that a program answers each line at its line feed.
+// The input in chunks, through a reader that is lent. A last line without a line feed is given one, so that a program answers each line at its
+// line feed.
 ghost use Rattle.std.specs.Prelude.{◌≡◌, ◌≤◌};
 ghost use Rattle.io.specs.Counts.{IsPrefixLen};
 ghost use Rattle.stream.specs.Reading.{Handed, Last, Read, started, stopped_at};

@@ -1,0 +1,13 @@
+use Rattle.std.proofs.Common.{rules}
+use Rattle.sums.proofs.SumLoops.{sum_none, sum_more}
+use Rattle.overload.proofs.GroupSum.{member_part, group_done}
+use Rattle.overload.proofs.group_budget.Goals as goal
+
+pub loop-i-init : goal.loop-i-init
+loop-i-init c = search (sum_none, rules)
+
+pub loop-i-preserved : goal.loop-i-preserved
+loop-i-preserved c = search (sum_more, member_part, rules)
+
+pub returns : goal.returns
+returns c = search (group_done, rules)

@@ -1,0 +1,10 @@
+-- A number past the width is answered at once; for any other the shift gives the bit.
+use Rattle.sets.proofs.Members.{none_past}
+use Rattle.sums.proofs.Sets.{bit_has}
+use Rattle.sets.proofs.core_in.Goals as goal
+
+pub returns-then-j-ge16 : goal.returns-then-j-ge16
+returns-then-j-ge16 c = none_past 16 _ _ c.ranges.cores.fits c.if-j-ge16.true
+
+pub returns : goal.returns
+returns c = bit_has _ _

@@ -3,7 +3,7 @@
 # make from-c: the compiled calls, tried from C. make sanitize: the same under the sanitizers and valgrind.
 # make install: the library for C, to PREFIX=.. (target/install if it is missing), under DESTDIR=.. if that is given. make executive: the examples.
 # make pin: small changes of the rules' definitions, tried one by one: the values and proofs of the crate `rules` itself must refuse each.
-KIT := rattle-kit-5b logic 064da1ca440f63e7
+KIT := rattle-kit-13f logic dac8208d650f15bf
 PREFIX := $(CURDIR)/target/install
 
 .PHONY: run test compare from-c sanitize pin library install executive bench kit plan calls
@@ -12,19 +12,18 @@ kit:
 	@command -v rt >/dev/null || { echo "rt is missing: install the Rattle kit ($(KIT)) and put its bin/ on PATH"; exit 1; }
 	@found="$$(rt version)"; test "$$found" = "$(KIT)" || echo "note: this kit is '$$found'; the proofs were last seen with '$(KIT)'"
 
-# the programs, proved and built
+# the programs, proved and built: target/bin/plan and target/bin/calls
 plan calls: kit
-	@mkdir -p target && rt check $@ >target/$@.log 2>&1 || { tail -n 20 target/$@.log; exit 1; }
-	@tail -n 1 target/$@.log
+	@scripts/build program $@
 
 # each set: what it is, its line, its answer line, and the table or the refusal in words
 run: plan
 	@scripts/x86-64 run target/bin/plan <examples/sets.hex >target/sets.out
 	@scripts/show examples/sets.hex examples/sets.txt target/sets.out
 
-# target/staticlib/libaurhennig.a, proved and compiled
+# target/staticlib/libaurhennig.a, proved and compiled: the static library aurhennig_c, which exports the calls of the crate aurhennig
 library: kit
-	@mkdir -p target && rt staticlib aurhennig >target/staticlib.log 2>&1 || { tail -n 20 target/staticlib.log; exit 1; }
+	@scripts/build library aurhennig_c libaurhennig.a
 
 install: library
 	@scripts/install "$(PREFIX)" "$(DESTDIR)"
@@ -38,11 +37,13 @@ executive: install
 bench: library plan calls
 	@bench/run
 
-# The kit needs no network, and so the gate needs none: where no C for x86-64 can be had, the calls from C are left out, and it says so.
+# What is cheap comes first. The kit needs no network, and so the gate needs none: where no C for x86-64 can be had, the calls from C are left out,
+# and it says so. The last line is once more that of rt ci.
 test: kit
 	@second/judge-stored
+	@scripts/gate
 	@if scripts/x86-64 ready; then $(MAKE) --no-print-directory from-c; else echo "from-c: left out, the calls from C are not tried"; fi
-	@rt ci
+	@tail -n 1 target/ci.log
 
 compare: plan calls library
 	@second/compare "$(COUNT)" "$(SEED)"

@@ -25,19 +25,23 @@ import tempfile
 import threading
 import time
 
+# `rt check` takes one crate a run; the kit's own checker, beside rt, takes all copies
+KIT = os.path.dirname(os.path.dirname(os.path.realpath(shutil.which("rt") or "rt")))
 CRATE = "crates/rules"
 SAME = "scripts/pin.same"
 LEVELS = {"→": (0, "r"), "×": (1, "r"), "≡": (2, "n"), "≤": (2, "n"), "<": (2, "n"), "||": (3, "r"), "&&": (4, "r"), "∷": (5, "r"),
           "++": (5, "r"), "+": (6, "l"), "-": (6, "l"), "*": (7, "l"), "/": (7, "l"), "%": (7, "l"), "^": (8, "r")}
 CLOSERS = {")", "]", "}", ";", ",", "|", "↦", "in", "=", ":"}
-EITHER_WAY = {"eqb", "max", "bitOr"}
+EITHER_WAY = {"eqb", "max", "bit_or"}
 ANSWERS = [["Accepted", "FrameLength", "CoreCount", "TaskCount", "ShortTable", "NotTable", "ShortFinishes", "BadLine"],
            ["EmptyMask", "Budget", "JobList", "NoUnits"], ["Overloaded", "MissingCore"]]
 DROPPED = {"put": 2, "drop": 1, "suc": 0, "not": 0, "insert": 1}
-HOMES = {"Prim.Native.Nat": ["_≤_", "_<_"], "lib.Dec": ["leb", "ltb"], "mathlib.Core.Bool": ["true", "false", "_&&_", "_||_"],
-         "Rattle·rules·specs.specs.declared.Answer.the-variants": ANSWERS[0] + ANSWERS[1] + ANSWERS[2]}
+HOMES = {"Rattle.std.specs.Prelude": ["◌≤◌", "◌<◌", "leb", "ltb", "true", "false", "◌&&◌", "◌||◌"],
+         "Rattle.rules.specs.declared.Answer.TheVariants": ANSWERS[0] + ANSWERS[1] + ANSWERS[2]}
 FOLLOWS = re.compile("was not admitted")
 FORM = re.compile("is not a field of|explicit argument|is given [0-9]+ argument|binders, but its type|components but its type|not in scope|unknown")
+# a field that is read, as `.core` in `p.core`, is a word of its own
+WORDS = re.compile(r"\[\]|[()\[\]{};,]|\.\w[\w-]*|(?:(?!\.\w)[^\s()\[\]{};,])+")
 COPIES = 12
 # seconds of a processor: for a run, and for a change that is tried alone
 LONGEST = 90
@@ -55,7 +59,7 @@ def tokens_of(source):
     for number, line in enumerate(source.splitlines(keepends=True), 1):
         comment = re.search(r"(^|\s)--( |$)", line)
         text = line[:comment.start()] if comment else line
-        found = [Token(m.group(), at + m.start(), number, m.start() + 1) for m in re.finditer(r"\[\]|[()\[\]{};,]|[^\s()\[\]{};,]+", text)]
+        found = [Token(m.group(), at + m.start(), number, m.start() + 1) for m in WORDS.finditer(text)]
         if found:
             lines.append(found)
         at += len(line)
@@ -109,17 +113,25 @@ class Parser:
         return left
 
     def applied(self):
-        parts = [self.atom()]
+        parts = [self.read()]
         while self.peek() and self.peek() not in CLOSERS and self.peek() not in LEVELS:
-            parts.append(self.atom())
+            parts.append(self.read())
         return parts[0] if len(parts) == 1 else Node("applied", parts, parts[0].first, parts[-1].last)
+
+    def read(self):
+        """An atom with the fields that are read of it."""
+        node = self.atom()
+        while re.match(r"\.\w", self.peek()) and self.tokens[self.at].start == node.last.end:
+            field = self.take()
+            node = Node("read", [node, Node("field", [], field, field, field.text)], node.first, field)
+        return node
 
     def atom(self):
         word = self.peek()
         if word in ("λ", "let", "elim", "record", "(", "{"):
             return {"λ": self.function, "let": self.named, "elim": self.cases, "record": self.record, "(": self.group, "{": self.level}[word]()
         token = self.take()
-        return Node("field" if re.match(r"\.\w", word) else "word", [], token, token, word)
+        return Node("word", [], token, token, word)
 
     def function(self):
         first = self.take("λ")
@@ -258,7 +270,7 @@ class Changes:
             node.parts = []
             return
         for a, b in zip(parts[1:], parts[2:]):
-            if "field" not in (a.kind, b.kind) and head.word not in EITHER_WAY:
+            if head.word not in EITHER_WAY:
                 self.exchange(a, b)
         if head.word == "cond":
             self.put(node, self.text(parts[2]))
@@ -317,7 +329,7 @@ def with_imports(text):
     bare = re.sub(r"(^|\s)--( .*)?$|^use .*$", "", text, flags=re.M)
     for home, words in HOMES.items():
         for word in words:
-            wanted = re.search(r"(?<![^\s(])" + re.escape(word.strip("_")) + r"(?![^\s);])", bare)
+            wanted = re.search(r"(?<![^\s(])" + re.escape(word.strip("◌")) + r"(?![^\s);])", bare)
             if wanted and not re.search(r"[{ ]" + re.escape(word) + "[,}]", uses):
                 line = f"use {home}.{{"
                 text = text.replace(line, line + word + ", ", 1) if line in text else text.replace("use ", line + word + "}\nuse ", 1)
@@ -352,7 +364,7 @@ class Bench:
         with open(self.first + "/top/src/lib.rt", "w", encoding="utf-8") as file:
             file.write("// Nothing: the copies of the crate are checked beside it.\n")
         for copy in range(size):
-            shutil.copytree(CRATE, f"{self.first}/rules{copy}", ignore=shutil.ignore_patterns("must-fail"))
+            shutil.copytree(CRATE, f"{self.first}/rules{copy}", ignore=shutil.ignore_patterns("must-fail", "out"))
             for folder, _, files in os.walk(f"{self.first}/rules{copy}"):
                 for name in files:
                     self.write(f"{folder}/{name}", open(f"{folder}/{name}", encoding="utf-8").read(), copy)
@@ -363,15 +375,18 @@ class Bench:
 
     def write(self, path, text, copy):
         with open(path, "w", encoding="utf-8") as file:
-            file.write(text.replace("Rattle·rules·", f"Rattle·rules{copy}·"))
+            file.write(text.replace("Rattle.rules.", f"Rattle.rules{copy}."))
 
     def check(self, folder, copies):
-        words = ["rt", "check", folder + "/top", "--incremental", folder + "/saved"]
+        words = [KIT + "/bin/rattle", "check", "--crate-name", "top", folder + "/top/src/lib.rt", "--incremental", folder + "/saved"]
+        for name in ("core", "std"):
+            words += ["--extern", f"{name}={KIT}/rlibs/{name}.rlib"]
         for copy in copies:
-            words += ["--lib", f"rules{copy}:={folder}/rules{copy}/src/lib.rt"]
+            words += ["--lib", f"rules{copy}:core,std={folder}/rules{copy}/src/lib.rt"]
+        words += ["-L", f"dependency={KIT}/rlibs", "--antt-project", KIT + "/rattle/logic/antt-project.json", "--logic-built", KIT + "/logic_built"]
         seconds = LONGEST if len(copies) > 1 else ALONE
         limit = lambda: resource.setrlimit(resource.RLIMIT_CPU, (seconds, seconds))
-        done = subprocess.run(words, stdout=subprocess.PIPE, stderr=subprocess.STDOUT, cwd=self.room, preexec_fn=limit, env=dict(os.environ, RT_CUT="400"))
+        done = subprocess.run(words, stdout=subprocess.PIPE, stderr=subprocess.STDOUT, cwd=self.room, stdin=subprocess.DEVNULL, preexec_fn=limit)
         return done.returncode, done.stdout.decode("utf-8", "replace")
 
     def own(self):

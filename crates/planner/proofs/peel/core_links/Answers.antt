@@ -1,0 +1,10 @@
+use Rattle.std.proofs.Common.{rules, arith, refl, sym, ap, ◌∙◌, subst, inl, inr}
+use Rattle.std.proofs.lemmas.Grind.{common_steps}
+use Rattle.planner.proofs.LinkLaws.{links_none, links_more}
+use Rattle.planner.proofs.peel.core_links.Goals as goal
+
+pub loop-i-init : goal.loop-i-init
+loop-i-init c = search (links_none, rules)
+
+pub loop-i-preserved : goal.loop-i-preserved
+loop-i-preserved c = search (links_more, rules)

@@ -1,0 +1,10 @@
+use Rattle.std.proofs.Common.{rules, arith, refl, sym, ap, ◌∙◌, subst, inl, inr}
+use Rattle.std.proofs.lemmas.Grind.{common_steps}
+use Rattle.planner.proofs.LinkLaws.{links_none, links_more}
+use Rattle.planner.proofs.peel.task_links.Goals as goal
+
+pub loop-j-init : goal.loop-j-init
+loop-j-init c = search (links_none, rules)
+
+pub loop-j-preserved : goal.loop-j-preserved
+loop-j-preserved c = search (links_more, rules)

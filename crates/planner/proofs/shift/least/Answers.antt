@@ -1,0 +1,7 @@
+use Rattle.std.proofs.Common.{rules, arith, refl, sym, ap, ◌∙◌, subst, inl, inr}
+use Rattle.std.proofs.lemmas.Grind.{common_steps}
+use Rattle.planner.proofs.ShiftLaws.{least_more}
+use Rattle.planner.proofs.shift.least.Goals as goal
+
+pub loop-i-preserved : goal.loop-i-preserved
+loop-i-preserved c = search (least_more, rules)

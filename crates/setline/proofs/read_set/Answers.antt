@@ -1,4 +1,4 @@
--- `setline::read_set` meets its contract: a law for each way out.
+-- `setline::read_set` meets its contract: a line that is well written has its header, and its tasks are read where the two lists have room.
 use Rattle.std.proofs.Common.{rules}
 use Rattle.setline.proofs.DecodeLaws.{written_length, written_long}
 use Rattle.setline.proofs.read_set.Goals as goal

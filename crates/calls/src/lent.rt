@@ -3,7 +3,7 @@ ghost use Rattle.std.specs.Prelude.{◌+◌, ◌*◌, ◌≤◌, ◌<◌, min, l
 
 use crate::answers::{put_answer, put_bad_line};
 use crate::words::{count_at, read_releases, read_words, word_at};
-use fields::{all_digits_lem, field_at};
+use fields::{all_digits, field_at};
 use rules::{Answer, Counted};
 
 // The line of a call has a byte and whole words, of 8 digits each.
@@ -140,7 +140,7 @@ fn call_of(line: &[u8]) -> u64
     if line.len() % WORD != 2 {
         return 0;
     }
-    if !all_digits_lem(line) {
+    if !all_digits(line) {
         return 0;
     }
     field_at(line, 0, 1)

@@ -10,6 +10,7 @@ mod words;
 ghost use Rattle.std.specs.Prelude.{◌≤◌, length};
 
 use lines::next;
+use std::io::{Read, Write};
 use stream::Source;
 
 // One byte more than the longest line that a call can have, 99,002 digits.
@@ -19,13 +20,19 @@ const LINE_BYTES: usize = 99003;
 const OUTPUT_BYTES: usize = 99003;
 
 // Every line of the input, to its end or until reading or writing fails. Each answer line is written by itself.
-fn answer_all(input: &mut [u8], line: &mut [u8], out: &mut [u8]) -> Source
+fn answer_all<R: Read, W: Write>(
+    input: &mut [u8],
+    line: &mut [u8],
+    out: &mut [u8],
+    from: &mut R,
+    to: &mut W,
+) -> Source
     requires { (length line.old ≤ 99003) × (99003 ≤ length out.old) }
 {
     let mut source = stream::start();
     let mut len = 0;
     loop {
-        source = stream::more(source, input);
+        source = stream::more(source, input, from);
         let at = source.at;
         let end = source.end;
         if at == end {
@@ -33,14 +40,16 @@ fn answer_all(input: &mut [u8], line: &mut [u8], out: &mut [u8]) -> Source
         }
         let stage = next(&input[at..end], line, len, out);
         len = stage.len;
-        source = stream::pass_on(source, stage.taken, out, stage.used);
+        source = stream::pass_on(source, stage.taken, out, stage.used, to);
     }
 }
 
-fn main() {
+fn main(rt: HostRuntime) {
+    let mut from = rt.stdin();
+    let mut to = rt.stdout();
     let mut input = io::large_buffer();
     let mut line = [0u8; LINE_BYTES];
     let mut output = [0u8; OUTPUT_BYTES];
-    let end = answer_all(&mut input, &mut line, &mut output);
-    stream::report(b"calls", end);
+    let end = answer_all(&mut input, &mut line, &mut output, &mut from, &mut to);
+    stream::report(b"calls", end, &mut rt.stderr());
 }

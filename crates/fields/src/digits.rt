@@ -48,7 +48,7 @@ pub(crate) fn digit_of(v: u8) -> u8
 }
 
 // Each byte is a digit.
-pub fn all_digits_lem(line: &[u8]) -> bool
+pub fn all_digits(line: &[u8]) -> bool
     ensures { result ≡ all_digits line.now }
 {
     let mut i = 0;

@@ -7,7 +7,7 @@ mod number;
 mod paste;
 mod reader;
 
-pub use digits::all_digits_lem;
+pub use digits::all_digits;
 pub use number::field_at;
 pub use paste::put_field;
 pub use reader::{Reader, start, take};

@@ -84,7 +84,7 @@ fn reach_cores(
 }
 
 // "When a task is first met, its other cores are reached": task `task` on core `core`.
-fn meet_one_lem(
+fn meet_one(
     units: &[u32; 1024],
     tasks: usize,
     cores: usize,
@@ -144,7 +144,7 @@ fn visit_core(
     };
     let mut t = 0;
     while t < tasks {
-        s = meet_one_lem(units, tasks, cores, core, start, first, s, t);
+        s = meet_one(units, tasks, cores, core, start, first, s, t);
         t += 1;
     }
     s

@@ -9,6 +9,7 @@ ghost use Rattle.stream.specs.Reading.{Ended};
 ghost use Rattle.stream.specs.Rounds.{Kept};
 
 use lines::feed;
+use std::io::{Read, Write};
 use stream::Source;
 
 // One byte more than the longest line that can be well written, 3,072 digits.
@@ -22,7 +23,13 @@ struct Ending {
 }
 
 // Every chunk of the input, to its end or until reading or writing fails.
-fn answer_all(input: &mut [u8], line: &mut [u8], out: &mut [u8]) -> Ending
+fn answer_all<R: Read, W: Write>(
+    input: &mut [u8],
+    line: &mut [u8],
+    out: &mut [u8],
+    from: &mut R,
+    to: &mut W,
+) -> Ending
     requires { (1 ≤ length input.old) × (3073 ≤ length line.old) × (1907 ≤ length out.old) }
     ensures ended { Ended result.source result.len }
     ensures kept { Kept LineAnswer line.old input.new result.source line.new result.len }
@@ -30,7 +37,7 @@ fn answer_all(input: &mut [u8], line: &mut [u8], out: &mut [u8]) -> Ending
     let mut source = stream::start();
     let mut len = 0;
     loop {
-        let chunk = stream::more(source, input);
+        let chunk = stream::more(source, input, from);
         let at = chunk.at;
         let end = chunk.end;
         if at == end {
@@ -38,14 +45,16 @@ fn answer_all(input: &mut [u8], line: &mut [u8], out: &mut [u8]) -> Ending
         }
         let stage = feed(&input[at..end], line, len, out, 0);
         len = stage.len;
-        source = stream::pass_on(chunk, stage.taken, out, stage.used);
+        source = stream::pass_on(chunk, stage.taken, out, stage.used, to);
     }
 }
 
-fn main() {
+fn main(rt: HostRuntime) {
+    let mut from = rt.stdin();
+    let mut to = rt.stdout();
     let mut input = io::large_buffer();
     let mut line = [0u8; LINE_BYTES];
     let mut output = io::large_buffer();
-    let end = answer_all(&mut input, &mut line, &mut output);
-    stream::report(b"plan", end.source);
+    let end = answer_all(&mut input, &mut line, &mut output, &mut from, &mut to);
+    stream::report(b"plan", end.source, &mut rt.stderr());
 }

@@ -6,7 +6,7 @@ ghost use Rattle.rules.specs.Line.{well_written};
 ghost use Rattle.setline.specs.Decoded.{Headed, TaskAt, Tasked};
 ghost use Rattle.setline.specs.ReadSet.{ReadSet};
 
-use fields::{all_digits_lem, start, take};
+use fields::{all_digits, start, take};
 
 // "So is any of more than 3,072 digits."
 const MAX_DIGITS: usize = 3072;
@@ -65,7 +65,7 @@ fn well_written(line: &[u8]) -> bool
     if MAX_DIGITS < n {
         return false;
     }
-    if !all_digits_lem(line) {
+    if !all_digits(line) {
         return false;
     }
     if n % 2 != 0 {

@@ -133,9 +133,9 @@ module _ {A : List ℕ → List ℕ → Type 0} where
       only : {l s o k : List ℕ} → Lines A l s o k → s ≡ [] → Chunks A l [] o k
       only none e = no_chunk
       only (more {t = t} b r w) e = absurd (no_last t b (sym e))
-  whole_chunks {l} {k = k} (t ∷ ts) q =
+  whole_chunks {l = l} {o = o} {k = k} (t ∷ ts) q =
       let p = lines_split t (whole_text ts) q in
-      subst (λ (x : List ℕ). Chunks A l (t ∷ ts) x k) (sym p.whole) (chunk p.lines (whole_chunks ts p.rest))
+      subst (λ (x : List ℕ). Chunks A l (t ∷ ts) x k) (sym p.whole) (chunk p.lines (whole_chunks {l = p.begun} {o = p.second} {k = k} ts p.rest))
 
   pub chunks_are_whole : (l : List ℕ) (ts : List (List ℕ)) (o k : List ℕ) → (Chunks A l ts o k → Lines A l (whole_text ts) o k) × (Lines A l (whole_text ts) o k → Chunks A l ts o k)
   chunks_are_whole l ts o k = (chunks_whole, whole_chunks ts)

@@ -1,17 +1,18 @@
-// Standard input in chunks. A last line without a line feed is given one, so that a program answers each line at its line feed.
+// The input in chunks, through a reader that is lent. A last line without a line feed is given one, so that a program answers each line at its
+// line feed.
 ghost use Rattle.std.specs.Prelude.{◌≡◌, ◌≤◌};
 ghost use Rattle.io.specs.Counts.{IsPrefixLen};
 ghost use Rattle.stream.specs.Reading.{Handed, Last, Read, started, stopped_at};
 
 use crate::line::LINE_FEED;
-use libc::STDIN_FILENO;
+use std::io;
 
 // "the input counts as ended after 1,000,000,000,000 bytes": so many, and the line feed that the last line may still get.
 const INPUT_ROOM: usize = 1000000000001;
 
 // The input: how many bytes may still come; from where to where what is left of the chunk stands in the buffer; whether the chunk's last
 // byte, and so the last byte that came, began or went on with a line; and whether reading or writing failed.
-#[derive(Drop)]
+#[derive(Clone, Copy)]
 pub struct Source {
     pub left: usize,
     pub at: usize,
@@ -76,21 +77,20 @@ fn end_last(s: Source, input: &mut [u8]) -> Source
     last
 }
 
-// Reads once. 0 bytes are the end of the input; below 0 reading failed, and a line that is begun stays without an answer.
-fn read_chunk(s: Source, input: &mut [u8]) -> Source
+// Reads once. 0 bytes are the end of the input; where reading failed, a line that is begun stays without an answer.
+fn read_chunk<R: io::Read>(s: Source, input: &mut [u8], from: &mut R) -> Source
     ensures { Read s input.new result }
 {
     if s.left == 0 {
         return stopped(s);
     }
     let room = part(input, s.left - 1);
-    let got = libc::read(STDIN_FILENO, &mut input[..room]);
-    if got < 0 {
+    let Ok(got) = from.read(&mut input[..room]) else {
         let mut failed = stopped(s);
         failed.unread = true;
         return failed;
-    }
-    let n = least(io::count(got, input), room);
+    };
+    let n = least(got, room);
     if n == 0 {
         return end_last(s, input);
     }
@@ -105,14 +105,14 @@ fn read_chunk(s: Source, input: &mut [u8]) -> Source
 }
 
 // What is left of the chunk, or the next chunk where nothing is left; nothing at the end of the input, and where reading or writing failed.
-pub fn more(s: Source, input: &mut [u8]) -> Source
+pub fn more<R: io::Read>(s: Source, input: &mut [u8], from: &mut R) -> Source
     ensures { Handed s input.old input.new result }
 {
     if s.end <= s.at {
-        return read_chunk(s, input);
+        return read_chunk(s, input, from);
     }
     if input.len() < s.end {
-        return read_chunk(s, input);
+        return read_chunk(s, input, from);
     }
     s
 }

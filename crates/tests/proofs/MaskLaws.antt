@@ -10,7 +10,6 @@ use lib.Dec.{ltb}
 use Rattle.rules.specs.Sum.{lowest}
 use Rattle.rules.specs.Sets.{has}
 use Rattle.rules.specs.Tests.{empty_mask, past_cores, lowest_missing, mask_tested}
-use Rattle.rules.specs.declared.MaskTest.{MaskTest}
 use Rattle.rules.specs.declared.MaskTest.TheVariants.{Good, Empty, Missing}
 use Rattle.sums.proofs.Sets.{bit_has}
 use Rattle.sums.proofs.Lowest.{lowest_past, lowest_more, lowest_found, lowest_ended}

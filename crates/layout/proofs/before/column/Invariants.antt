@@ -1,0 +1,13 @@
+-- `before::column` meets its contract.
+use Rattle.std.proofs.Common.{◌≡◌, ◌≤◌, ◌-◌}
+use Rattle.stretches.specs.Cell.{cell}
+use Rattle.rules.specs.Sum.{sum_to, put}
+use Rattle.layout.proofs.before.column.Given as goal
+
+abbrev pub invariant-loop-i : goal.invariant-loop-i
+invariant-loop-i l =
+    (l.i ≤ l.tasks) × (l.sum ≡ sum_to l.i (put l.skip 0 (λ k. cell l.units k l.core)))
+
+abbrev pub decreases-loop-i : goal.decreases-loop-i
+decreases-loop-i l =
+    l.tasks - l.i

@@ -1,0 +1,12 @@
+use Rattle.std.proofs.Common.{rules}
+use Rattle.layout.proofs.LayLaws.{laid_begin, laid_asks, laid_more}
+use Rattle.layout.proofs.laying.lay_core.Goals as goal
+
+pub loop-t-init : goal.loop-t-init
+loop-t-init c = search (laid_begin, rules)
+
+pub lay_task-count-requires : goal.lay_task-count-requires
+lay_task-count-requires c = search (laid_asks, rules)
+
+pub loop-t-preserved : goal.loop-t-preserved
+loop-t-preserved c = search (laid_more, rules)

@@ -1,5 +1,4 @@
 use Rattle.planner.proofs.DecideLaws.{answer_ready, answer_decided}
-use Rattle.std.proofs.Common.{rules, arith, refl, sym, ap, ◌∙◌, subst, inl, inr}
 use Rattle.planner.proofs.plan.Goals as goal
 
 pub decide-requires : goal.decide-requires

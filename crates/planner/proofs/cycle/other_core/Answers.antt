@@ -3,8 +3,7 @@ use Rattle.forest.specs.Stripping.{links}
 use Rattle.stretches.specs.Cell.{cell}
 use Rattle.planner.proofs.WayLaws.{other_found}
 use Rattle.stretches.specs.Cell.{cell}
-use Rattle.std.proofs.Common.{rules, arith, refl, sym, ap, ◌∙◌, subst, inl, inr}
-use Rattle.std.proofs.lemmas.Grind.{common_steps}
+use Rattle.std.proofs.Common.{rules}
 use Rattle.planner.proofs.cycle.other_core.Goals as goal
 
 pub returns : goal.returns

@@ -3,7 +3,7 @@ use Rattle.planner.proofs.WayLaws.{other_none}
 use Rattle.stretches.specs.Cell.{cell}
 use Rattle.planner.proofs.WayLaws.{other_found}
 use Rattle.stretches.specs.Cell.{cell}
-use Rattle.std.proofs.Common.{rules, arith, refl, sym, ap, ◌∙◌, subst, inl, inr}
+use Rattle.std.proofs.Common.{rules}
 use Rattle.planner.proofs.cycle.other_task.Goals as goal
 
 pub returns-then-suits : goal.returns-then-suits

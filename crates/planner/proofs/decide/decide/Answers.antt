@@ -1,6 +1,6 @@
 use Rattle.planner.proofs.DecideLaws.{decided_whole, decided_short}
 use Rattle.planner.proofs.DecideLaws.{fill_ready}
-use Rattle.std.proofs.Common.{rules, arith, refl, sym, ap, ◌∙◌, subst, inl, inr}
+use Rattle.std.proofs.Common.{rules}
 use Rattle.planner.proofs.decide.decide.Goals as goal
 
 pub fill-filled-requires : goal.fill-filled-requires

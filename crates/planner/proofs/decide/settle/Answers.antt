@@ -1,5 +1,4 @@
 use Rattle.planner.proofs.DecideLaws.{settled_by, settled_never}
-use Rattle.std.proofs.Common.{rules, arith, refl, sym, ap, ◌∙◌, subst, inl, inr}
 use Rattle.planner.proofs.decide.settle.Goals as goal
 
 pub returns-in-Pieces : goal.returns-in-Pieces

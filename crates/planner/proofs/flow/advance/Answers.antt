@@ -1,7 +1,5 @@
 -- The way back keeps a partial allocation; where no core has room, the excess decides.
 use Rattle.planner.proofs.EndedLaws.{ended_whole, ended_short}
-use Rattle.std.proofs.Common.{rules, arith, refl, sym, ap, ◌∙◌, subst, inl, inr}
-use Rattle.std.proofs.lemmas.Grind.{common_steps}
 use Rattle.planner.proofs.flow.advance.Goals as goal
 
 pub returns-then-excess-eq0-clause-pass : goal.returns-then-excess-eq0-clause-pass

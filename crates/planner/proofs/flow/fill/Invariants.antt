@@ -1,5 +1,5 @@
 -- Each search that does not end leaves less lacking.
-use Rattle.std.proofs.Common.{◌-◌, length}
+use Rattle.std.proofs.Common.{length}
 use Rattle.rules.specs.Sum.{sum_to}
 use Rattle.rules.specs.Plan.{at}
 use Rattle.planner.specs.Fill.{Filling, demand}

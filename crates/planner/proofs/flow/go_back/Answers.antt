@@ -1,6 +1,5 @@
 use Rattle.planner.proofs.GoBackLaws.{on_less}
-use Rattle.std.proofs.Common.{rules, arith, refl, sym, ap, ◌∙◌, subst, inl, inr}
-use Rattle.std.proofs.lemmas.Grind.{common_steps}
+use Rattle.std.proofs.Common.{rules, arith}
 use Rattle.planner.proofs.GoBackLaws.{on_small, on_fits, on_last_fits, on_next, on_last}
 use Rattle.planner.proofs.flow.go_back.Goals as goal
 
@@ -17,7 +16,7 @@ pub bounds-left-via : goal.bounds-left-via
 bounds-left-via c = omega (arith, on_small c.requires c.loop-left.invariant)
 
 pub step_back-p-requires : goal.step_back-p-requires
-step_back-p-requires c = search (on_fits, on_small, on_last_fits, rules)
+step_back-p-requires c = search (on_fits, rules)
 
 pub loop-left-smaller : goal.loop-left-smaller
 loop-left-smaller c = omega (arith, c.step_back-p.ensures.place, on_less c.requires c.loop-left.invariant c.loop-left-test.true)

@@ -1,5 +1,4 @@
 -- Each step keeps whatever demand is being filled, and comes to an earlier place.
-use Rattle.std.proofs.Common.{◌-◌}
 use Rattle.planner.specs.Stock.{stock}
 use Rattle.planner.specs.Search.{trail}
 use Rattle.planner.specs.Filled.{Underway}

@@ -1,5 +1,5 @@
 use Rattle.planner.proofs.FillLaws.{fill_start, on_fits, on_kept}
-use Rattle.std.proofs.Common.{rules, arith, refl, sym, ap, ◌∙◌, subst, inl, inr}
+use Rattle.std.proofs.Common.{rules, arith, refl}
 use Rattle.planner.proofs.flow.place_first.Goals as goal
 
 pub loop-t-init : goal.loop-t-init

@@ -1,5 +1,4 @@
-use Rattle.std.proofs.Common.{rules, arith, refl, sym, ap, ◌∙◌, subst, inl, inr}
-use Rattle.std.proofs.lemmas.Grind.{common_steps}
+use Rattle.std.proofs.Common.{rules}
 use Rattle.planner.proofs.LinkLaws.{links_none, links_more}
 use Rattle.planner.proofs.peel.core_links.Goals as goal
 

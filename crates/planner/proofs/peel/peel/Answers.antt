@@ -1,5 +1,5 @@
 use Rattle.planner.proofs.LooseLaws.{peel_task, peel_core, task_less, core_less}
-use Rattle.std.proofs.Common.{rules, arith, refl, sym, ap, ◌∙◌, subst, inl, inr}
+use Rattle.std.proofs.Common.{rules}
 use Rattle.planner.proofs.peel.peel.Goals as goal
 
 pub loop-tasks_gone-smaller-then-t-tasks : goal.loop-tasks_gone-smaller-then-t-tasks

@@ -1,5 +1,5 @@
 -- The invariant: what is gone was loose when it went. The measure counts what is still there.
-use Rattle.std.proofs.Common.{◌+◌, ◌-◌}
+use Rattle.std.proofs.Common.{◌+◌}
 use Rattle.rules.specs.Sum.{sum_to}
 use Rattle.stretches.specs.Cell.{cell}
 use Rattle.forest.specs.Stripping.{there, Stripping}

@@ -5,8 +5,7 @@ use Rattle.planner.specs.Search.{Counted}
 use Rattle.planner.specs.declared.search.Seen.{Seen}
 use Rattle.planner.proofs.SearchLaws.{one_place}
 -- Each way out is a law of the step: outside the mask, known already, queued.
-use Rattle.std.proofs.Common.{rules, arith, refl, sym, ap, ◌∙◌, subst, inl, inr}
-use Rattle.std.proofs.lemmas.Grind.{common_steps}
+use Rattle.std.proofs.Common.{rules, arith}
 use Rattle.planner.proofs.SearchLaws.{reached_none, one_new, one_holds}
 use Rattle.planner.proofs.search.reach_one.Goals as goal
 
@@ -30,7 +29,7 @@ pub overflow_add-result : goal.overflow_add-result
 overflow_add-result c = omega (arith, place_left c.args.seen c.requires.few c.requires.core c.requires.counted c.core_in-2.ensures.0 c.core_in-2.ensures.1 c.if-core_in-eq1.false)
 
 pub returns-clause-reached : goal.returns-clause-reached
-returns-clause-reached c = search (reached_none, one_new, one_holds, rules)
+returns-clause-reached c = search (one_new, rules)
 
 pub returns-clause-holds : goal.returns-clause-holds
 returns-clause-holds c = search (reached_none, one_new, one_holds, rules)

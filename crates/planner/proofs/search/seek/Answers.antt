@@ -1,6 +1,5 @@
 use Rattle.planner.proofs.SeekLaws.{place_small}
-use Rattle.std.proofs.Common.{rules, arith, refl, sym, ap, ◌∙◌, subst, inl, inr}
-use Rattle.std.proofs.lemmas.Grind.{common_steps}
+use Rattle.std.proofs.Common.{rules, arith}
 use Rattle.planner.proofs.SeekLaws.{sought_start, sought_room, sought_end, sought_more}
 use Rattle.planner.proofs.search.seek.Goals as goal
 
@@ -20,7 +19,7 @@ pub bounds-room-core : goal.bounds-room-core
 bounds-room-core c = omega (arith, place_small c.loop-head.invariant c.loop-head-test.true)
 
 pub returns-then-room-core-gt0-clause-sight : goal.returns-then-room-core-gt0-clause-sight
-returns-then-room-core-gt0-clause-sight c = search (sought_room, sought_end, rules)
+returns-then-room-core-gt0-clause-sight c = search (sought_room, rules)
 
 pub expand-s-requires-clause-place : goal.expand-s-requires-clause-place
 expand-s-requires-clause-place c = (place_small c.loop-head.invariant c.loop-head-test.true).0

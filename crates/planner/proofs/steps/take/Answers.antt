@@ -1,7 +1,6 @@
 -- The three stores are the three definitions.
 use Rattle.planner.specs.Stock.{raise, lower}
-use Rattle.std.proofs.Common.{rules, arith, refl, sym, ap, ◌∙◌, subst, inl, inr}
-use Rattle.std.proofs.lemmas.Grind.{common_steps}
+use Rattle.std.proofs.Common.{refl}
 use Rattle.planner.proofs.steps.take.Goals as goal
 
 pub returns : goal.returns

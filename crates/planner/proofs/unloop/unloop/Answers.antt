@@ -1,6 +1,6 @@
 use Rattle.forest.proofs.Strip.{strip_none}
 use Rattle.forest.proofs.Shifting.{kept_none}
-use Rattle.std.proofs.Common.{rules, arith, refl, sym, ap, ◌∙◌, subst, inl, inr}
+use Rattle.std.proofs.Common.{rules}
 use Rattle.planner.proofs.unloop.unloop.Goals as goal
 
 pub loop-gone-init : goal.loop-gone-init

@@ -1,5 +1,5 @@
 -- All sums are kept, and what is gone stays gone. The measure is the number of edges.
-use Rattle.std.proofs.Common.{◌≡◌, ◌-◌, length}
+use Rattle.std.proofs.Common.{◌≡◌, length}
 use Rattle.stretches.specs.Cell.{cell}
 use Rattle.forest.specs.Stripping.{Stripping}
 use Rattle.forest.specs.Ring.{Kept, edges}

@@ -1,13 +1,10 @@
 -- Laws on what stands after an answer's number, as it is written: one for each arm of the match.
 -- Assumes nothing.
 use mathlib.Core.Path.{◌≡◌, refl, sym, ◌∙◌, ap}
-use mathlib.Core.List.{List, [], ◌∷◌, append-nil}
+use mathlib.Core.List.{List, [], append-nil}
 use Prim.Native.Nat.{ℕ, ◌+◌, ◌*◌, ◌≤◌}
 use native.Mathlib.Omega.{arith}
 use lib.ListN.{length, length-append}
-use types.Run.{OneOf, miss}
-use denote.Enum.Declared.{tag_of}
-use Rattle.rules.specs.contracts.Answer.{the_type}
 use Rattle.rules.specs.declared.Answer.{Answer}
 use Rattle.rules.specs.declared.Answer.TheVariants.{Accepted, FrameLength, CoreCount, TaskCount, EmptyMask, Budget, ShortTable, Overloaded, NotTable, JobList, NoUnits, ShortFinishes, BadLine, MissingCore}
 use Rattle.rules.specs.Piece.{Piece, first_pieces}
@@ -59,25 +56,27 @@ module _ (a : Answer) where
   )
 
 -- the other answers carry nothing on a line
-rest_none : (a : Answer) (ps : List Piece) → OneOf (1 ∷ 2 ∷ 3 ∷ 6 ∷ 8 ∷ 9 ∷ 10 ∷ 11 ∷ 12 ∷ []) (tag_of the_type a) → answer_rest a ps ≡ []
+rest_none : (a : Answer) (ps : List Piece) → (a ≡ Accepted → ⊥) → ((task : ℕ) → a ≡ EmptyMask task → ⊥) → ((task : ℕ) → a ≡ Budget task → ⊥)
+    → ((g c : ℕ) → a ≡ Overloaded g c → ⊥) → ((task core : ℕ) → a ≡ MissingCore task core → ⊥) → answer_rest a ps ≡ []
 unfolding line_widths values_line answer_rest
-rest_none Accepted ps k = absurd (miss (1 ∷ 2 ∷ 3 ∷ 6 ∷ 8 ∷ 9 ∷ 10 ∷ 11 ∷ 12 ∷ []) 0 tt k)
-rest_none FrameLength ps k = refl
-rest_none CoreCount ps k = refl
-rest_none TaskCount ps k = refl
-rest_none (EmptyMask task) ps k = absurd (miss (1 ∷ 2 ∷ 3 ∷ 6 ∷ 8 ∷ 9 ∷ 10 ∷ 11 ∷ 12 ∷ []) 4 tt k)
-rest_none (Budget task) ps k = absurd (miss (1 ∷ 2 ∷ 3 ∷ 6 ∷ 8 ∷ 9 ∷ 10 ∷ 11 ∷ 12 ∷ []) 5 tt k)
-rest_none ShortTable ps k = refl
-rest_none (Overloaded g c) ps k = absurd (miss (1 ∷ 2 ∷ 3 ∷ 6 ∷ 8 ∷ 9 ∷ 10 ∷ 11 ∷ 12 ∷ []) 7 tt k)
-rest_none NotTable ps k = refl
-rest_none (JobList job) ps k = refl
-rest_none (NoUnits job) ps k = refl
-rest_none ShortFinishes ps k = refl
-rest_none BadLine ps k = refl
-rest_none (MissingCore task core) ps k = absurd (miss (1 ∷ 2 ∷ 3 ∷ 6 ∷ 8 ∷ 9 ∷ 10 ∷ 11 ∷ 12 ∷ []) 13 tt k)
+rest_none Accepted ps n₀ n₄ n₅ n₇ n₁₃ = absurd (n₀ refl)
+rest_none FrameLength ps n₀ n₄ n₅ n₇ n₁₃ = refl
+rest_none CoreCount ps n₀ n₄ n₅ n₇ n₁₃ = refl
+rest_none TaskCount ps n₀ n₄ n₅ n₇ n₁₃ = refl
+rest_none (EmptyMask task) ps n₀ n₄ n₅ n₇ n₁₃ = absurd (n₄ task refl)
+rest_none (Budget task) ps n₀ n₄ n₅ n₇ n₁₃ = absurd (n₅ task refl)
+rest_none ShortTable ps n₀ n₄ n₅ n₇ n₁₃ = refl
+rest_none (Overloaded g c) ps n₀ n₄ n₅ n₇ n₁₃ = absurd (n₇ g c refl)
+rest_none NotTable ps n₀ n₄ n₅ n₇ n₁₃ = refl
+rest_none (JobList job) ps n₀ n₄ n₅ n₇ n₁₃ = refl
+rest_none (NoUnits job) ps n₀ n₄ n₅ n₇ n₁₃ = refl
+rest_none ShortFinishes ps n₀ n₄ n₅ n₇ n₁₃ = refl
+rest_none BadLine ps n₀ n₄ n₅ n₇ n₁₃ = refl
+rest_none (MissingCore task core) ps n₀ n₄ n₅ n₇ n₁₃ = absurd (n₁₃ task core refl)
 
-pub rest_other : (a : Answer) (o : List ℕ) (ps : List Piece) → OneOf (1 ∷ 2 ∷ 3 ∷ 6 ∷ 8 ∷ 9 ∷ 10 ∷ 11 ∷ 12 ∷ []) (tag_of the_type a) → Ends o o 2 (answer_rest a ps)
-rest_other a o ps k = simp (rest_none a ps k) (sym (pasted_none o 2), refl)
+pub rest_other : (a : Answer) (o : List ℕ) (ps : List Piece) → (a ≡ Accepted → ⊥) → ((task : ℕ) → a ≡ EmptyMask task → ⊥) → ((task : ℕ) → a ≡ Budget task → ⊥)
+    → ((g c : ℕ) → a ≡ Overloaded g c → ⊥) → ((task core : ℕ) → a ≡ MissingCore task core → ⊥) → Ends o o 2 (answer_rest a ps)
+rest_other a o ps n₀ n₄ n₅ n₇ n₁₃ = simp (rest_none a ps n₀ n₄ n₅ n₇ n₁₃) (sym (pasted_none o 2), refl)
 
 -- the number and the rest
 pub answer_put : (a : Answer) (ps : List Piece) (o o₁ o₂ : List ℕ) (n r : ℕ) → n ≡ number_of a → 1906 ≤ length o → o₁ ≡ pasted o 0 (bytes 1 n) → Ends o₁ o₂ r (answer_rest a ps)

@@ -7,7 +7,6 @@ use native.Mathlib.Omega.{arith}
 use Rattle.rules.specs.Answer.{number_of}
 use Rattle.rules.specs.Tests.{tested}
 use Rattle.rules.specs.MaskFaults.{Sized, EmptyAt, MissingAt}
-use Rattle.rules.specs.Plan.{at}
 use Rattle.rules.specs.Line.{digits_at, field, line_frame, line_cores, line_budgets, line_masks, answer_line}
 use Rattle.rules.specs.LineCall.{lent_table, LinePlanned}
 use Rattle.rules.specs.declared.Answer.{Answer}

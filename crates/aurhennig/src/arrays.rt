@@ -6,8 +6,7 @@ use crate::reply::reply;
 use rules::Reply;
 
 // The table of a set, at the front of the lent one; `count` is the number of its pieces.
-#[unsafe(no_mangle)]
-pub extern "C" fn aurhennig_plan(
+pub fn aurhennig_plan(
     frame: u32,
     cores: u32,
     budgets: &[u32],
@@ -22,8 +21,7 @@ pub extern "C" fn aurhennig_plan(
 }
 
 // Whether the table is a frame table.
-#[unsafe(no_mangle)]
-pub extern "C" fn aurhennig_check_table(frame: u32, cores: u32, table: &[u32]) -> Reply
+pub fn aurhennig_check_table(frame: u32, cores: u32, table: &[u32]) -> Reply
     ensures { result ≡ check_reply frame cores table.now }
 {
     let answer = table::check_table(frame, cores, table);
@@ -31,8 +29,7 @@ pub extern "C" fn aurhennig_check_table(frame: u32, cores: u32, table: &[u32]) -
 }
 
 // `count` is the moves of a frame table.
-#[unsafe(no_mangle)]
-pub extern "C" fn aurhennig_count_moves(frame: u32, cores: u32, table: &[u32]) -> Reply
+pub fn aurhennig_count_moves(frame: u32, cores: u32, table: &[u32]) -> Reply
     ensures { result ≡ moves_reply frame cores table.now }
 {
     let counted = moves::count_moves(frame, cores, table);
@@ -41,8 +38,7 @@ pub extern "C" fn aurhennig_count_moves(frame: u32, cores: u32, table: &[u32]) -
 }
 
 // The finish of each job of a task, at the front of the lent list; `count` is the number of finishes.
-#[unsafe(no_mangle)]
-pub extern "C" fn aurhennig_walk(
+pub fn aurhennig_walk(
     frame: u32,
     cores: u32,
     table: &[u32],

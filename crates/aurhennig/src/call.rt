@@ -57,8 +57,7 @@ fn answer_line(input: &[u8], output: &mut [u8]) -> usize
 }
 
 // It hands back how many bytes it wrote at the front of `output`; the rest keeps what it held.
-#[unsafe(no_mangle)]
-pub extern "C" fn aurhennig_plan_line(input: &[u8], output: &mut [u8]) -> usize
+pub fn aurhennig_plan_line(input: &[u8], output: &mut [u8]) -> usize
     ensures { CallAnswer input.now output.old result output.new }
 {
     if output.len() < LEAST_OUTPUT {

@@ -7,7 +7,7 @@ use mathlib.Core.List.{List, [], ◌∷◌}
 use lib.Dec.{T as Holds}
 use lib.ListN.{length}
 use seplogic.Ra.Ura.{Ura}
-use mir.Syntax.{named, erased, w64, Place, Opd as Operand, Body, seq, call}
+use mir.Syntax.{named, erased, w8, w64, Place, Opd as Operand, Body, seq, call}
 use mir.Val.{Val, WT, has_ty, vint}
 use base.Logic.{SProp, ent, sep, snd∗, ex_e, id⊢}
 use base.Fml.{Lft, Share, Fml, ftrue, flft}
@@ -22,7 +22,7 @@ use types.Run.{Opds}
 use sound.WpLaws.{FmC}
 use denote.RattleType.{RattleType, owns}
 use denote.Laws.{Is, shows}
-use denote.Plain.{uint_Makes}
+use denote.Plain.{uint_Makes, uint_row_laws}
 use denote.Builtin.{u8, usize}
 use denote.Ref.{Bor, NamedLft}
 use denote.Signature.{named_lft}
@@ -91,7 +91,7 @@ module _ {M : Type 1} {𝓤 : Ura M} (𝓛 : Logic 𝓤) (mem : Memory → SProp
   goes_start : (s : Bor (List ℕ)) (p : ℕ) → p < 2 ^ 64 → ent 𝓤 (sep 𝓤 Token (sem 𝓛 (LineOwn s))) (sep 𝓤 ((Start 𝓛 mem run).pre (to_start s p)) (sem 𝓛 (LineOwn s)))
   goes_start s p fits =
       qed 𝓛 ((‵ (flft κ q) ⊛ ‵ ftrue) ∷ ‵ (LineOwn s) ∷ []) ∵
-      move ! (1 ∷ []) $ use1 𝓛 (‵ (LineOwn s) ⊛ ‵ (LineOwn s)) ((shr_slice_copy 𝓛 (named 0) κ u8).twice s (line_val s ∷ [])) $ split ! $
+      move ! (1 ∷ []) $ use1 𝓛 (‵ (LineOwn s) ⊛ ‵ (LineOwn s)) ((shr_slice_copy 𝓛 (named 0) κ u8 (uint_row_laws w8)).twice s (line_val s ∷ [])) $ split ! $
       nothing ! $ owned ! usize (Is usize) (uint_Makes 𝓛 w64) p _ (refl, fits) $ fjoin ! $ move ! (1 ∷ 0 ∷ []) $ fjoin ! $
       move ! (2 ∷ 0 ∷ []) $ use2 𝓛 (raw ((Start 𝓛 mem run).pre (to_start s p))) (qed 𝓛 ((‵ (flft κ q) ⊛ ‵ ftrue) ∷ ‵ (owns (ShrSlice (named 0) κ u8 ∷ usize ∷ []) (s, (p, tt)) (line_val s ∷ [], (vint w64 p ∷ [], tt))) ∷ []) ∵ join ! $ frame ! $ done !) $ frame ! $ done !
 

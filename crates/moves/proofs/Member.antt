@@ -53,6 +53,7 @@ insert_new p (q ∷ l) =
     ]
 
 pub insert_old : (p r : Piece) (l : List Piece) → In r l → In r (insert p l)
+insert_old p r [] i = absurd i
 insert_old p r (q ∷ l) i =
     elim (dec_le q.start p.start) [
       | yes a ↦ rw (insert_later p q l a) (⊎_elim (λ e. inl e) (λ j. inr (insert_old p r l j)) i)
@@ -75,6 +76,7 @@ in_by_start t r (p ∷ ps) i =
     later h = (inr h.0, h.1)
 
 pub by_start_in : (t : ℕ) (r : Piece) (ps : List Piece) → In r ps → r.task ≡ t → In r (by_start t ps)
+by_start_in t r [] i e = absurd i
 by_start_in t r (p ∷ ps) i e =
     elim (ℕ_discrete p.task t) [
       | yes d ↦
@@ -91,6 +93,7 @@ in_append r (q ∷ a) b (inl e) = inl (inl e)
 in_append r (q ∷ a) b (inr i) = ⊎_elim (λ j. inl (inr j)) (λ j. inr j) (in_append r a b i)
 
 pub append_left : (r : Piece) (a b : List Piece) → In r a → In r (a ++ b)
+append_left r [] b i = absurd i
 append_left r (q ∷ a) b (inl e) = inl e
 append_left r (q ∷ a) b (inr i) = inr (append_left r a b i)
 
@@ -121,5 +124,6 @@ first_in l (suc c) k h =
 -- a test that every piece of a list passes, at one of them
 pub every_in : (t : Piece → Bool) (ps : List Piece) (p : Piece) → every t ps ≡ true → In p ps → t p ≡ true
 unfolding every
+every_in t [] p e i = absurd i
 every_in t (q ∷ ps) p e (inl d) = ap t d ∙ and_left (t q) (every t ps) e
 every_in t (q ∷ ps) p e (inr i) = every_in t ps p (and_right (t q) (every t ps) e) i

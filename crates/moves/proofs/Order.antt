@@ -24,6 +24,7 @@ Chain b [] = Unit {0}
 Chain b (q ∷ l) = (b ≤ q.start) × (1 ≤ q.len) × Chain (q.start + q.len) l
 
 pub chain_start : (b : ℕ) (l : List Piece) (q : Piece) → Chain b l → In q l → b ≤ q.start
+chain_start b [] q c i = absurd i
 chain_start b (p ∷ l) q c (inl e) = rw (ap (λ (r : Piece). r.start) e) c.0
 chain_start b (p ∷ l) q c (inr i) = omega (arith, chain_start (p.start + p.len) l q c.2 i, c.0)
 

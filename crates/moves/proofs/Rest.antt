@@ -52,6 +52,7 @@ rest_nothing e (q ∷ l) f =
 -- q starts first among those from e on
 pub rest_first : (e b : ℕ) (s : List Piece) (q : Piece) → Chain b s → In q s → e ≤ q.start
     → ((r : Piece) → In r s → e ≤ r.start → q.start ≤ r.start) → rest e s ≡ q ∷ rest (q.start + q.len) s
+rest_first e b [] q c i h f = absurd i
 rest_first e b (a ∷ l) q c i h f =
     elim (dec_le e a.start) [
       | yes g ↦ ⊎_elim (λ d. here g d) (λ j. absurd (late g (chain_start (a.start + a.len) l q c.2 j))) i

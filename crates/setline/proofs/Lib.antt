@@ -3,4 +3,5 @@ pub mod Decoding
 pub mod Handed
 pub mod Narrow
 pub mod ReadLaws
+pub mod TakenLaws
 pub mod Unique

@@ -25,7 +25,7 @@ import tempfile
 import threading
 import time
 
-# `rt check` takes one crate a run; the kit's own checker, beside rt, takes all copies
+# rt takes one crate a run; the checker beside it takes all copies
 KIT = os.path.dirname(os.path.dirname(os.path.realpath(shutil.which("rt") or "rt")))
 CRATE = "crates/rules"
 SAME = "scripts/pin.same"
@@ -38,8 +38,10 @@ ANSWERS = [["Accepted", "FrameLength", "CoreCount", "TaskCount", "ShortTable", "
 DROPPED = {"put": 2, "drop": 1, "suc": 0, "not": 0, "insert": 1}
 HOMES = {"Rattle.std.specs.Prelude": ["◌≤◌", "◌<◌", "leb", "ltb", "true", "false", "◌&&◌", "◌||◌"],
          "Rattle.rules.specs.declared.Answer.TheVariants": ANSWERS[0] + ANSWERS[1] + ANSWERS[2]}
-FOLLOWS = re.compile("was not admitted")
-FORM = re.compile("is not a field of|explicit argument|is given [0-9]+ argument|binders, but its type|components but its type|not in scope|unknown")
+# what an error's first line says of what rests on a refused declaration, and of a name or a number of arguments
+FOLLOWS = re.compile(r"^.*(was not admitted|(was|were) not checked)")
+FORM = re.compile(r"^.*(is not a field of|is applied to an argument but has type|binders, but its type|components but its type"
+                  r"|needs a function .*type to bind|is not in scope)")
 # a field that is read, as `.core` in `p.core`, is a word of its own
 WORDS = re.compile(r"\[\]|[()\[\]{};,]|\.\w[\w-]*|(?:(?!\.\w)[^\s()\[\]{};,])+")
 COPIES = 12
@@ -420,10 +422,10 @@ def verdict(status, said, copy):
         return ("left", "") if proved else ("refused", f"fn number: not proved")
     if any("/specs/" in error.split(": error:")[0] for error in own):
         return "no program", own[0]
-    roots = [error for error in own if not FOLLOWS.search(error)]
-    if all(FORM.search(error) for error in roots):
+    roots = [error for error in own if not FOLLOWS.match(error)]
+    if all(FORM.match(error) for error in roots):
         return "no program", (roots or own)[0]
-    return "refused", next(error for error in roots if not FORM.search(error))
+    return "refused", next(error for error in roots if not FORM.match(error))
 
 
 def known_same():

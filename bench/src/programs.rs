@@ -1,4 +1,4 @@
-//! Lines a second through the compiled programs, as `rt check` built them.
+//! Lines a second through the compiled programs, as `rt run` built them.
 
 use crate::sets::{full, line, Masks, Random};
 use std::fs::File;
@@ -41,7 +41,7 @@ fn walk_line() -> Vec<u8> {
 fn run(root: &Path, program: &str, lines: &[Vec<u8>]) -> Result<Option<Duration>, String> {
     let path: PathBuf = root.join("target/bin").join(program);
     if !path.exists() {
-        println!("program {program}: target/bin/{program} is not there; run `rt check {program}`");
+        println!("program {program}: target/bin/{program} is not there; run `make {program}`");
         return Ok(None);
     }
     let input = std::env::temp_dir().join(format!("bench-{program}-{}", std::process::id()));

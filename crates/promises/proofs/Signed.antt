@@ -11,7 +11,6 @@ use lib.Dec.{eqb}
 use lib.ListN.{length, drop, length-append, length-drop}
 use Rattle.rules.specs.Sets.{union}
 use Rattle.rules.specs.Answer.{number_of, values_of}
-use Rattle.rules.specs.Extra.{extra}
 use Rattle.rules.specs.Piece.{Piece, first_pieces, numbers_of}
 use Rattle.rules.specs.FrameTable.{every, every_two, task_apart, frame_pieces, frame_table}
 use Rattle.rules.specs.Service.{units}

@@ -36,6 +36,9 @@ pub above_letter : (b : ℕ) → 103 ≤ b → Refused ≡ read_digit b
 unfolding read_digit is_digit digit_value is_decimal is_letter
 above_letter b l = simp (le-leb 48 b (omega arith), le-ltb b 58 (omega arith), le-leb 97 b (omega arith), le-ltb b 103 l)
 
+-- what a byte is, by the range that it stands in
+pub ruleset byte_cases = (decimal, letter, below_decimal, below_letter, above_letter)
+
 zero_one : {A : Type 0} → ◌≡◌ {A = ℕ} 0 1 → A
 zero_one z = absurd (never z)
   where

@@ -10,6 +10,7 @@ enum Digit {
     Refused,
 }
 
+#[tactic(auto, using(crate::proofs::DigitLaws::byte_cases))]
 fn read_digit(b: u8) -> Digit
     ensures { result ≡ read_digit b }
 {

@@ -12,7 +12,7 @@ use fitting::units_fit;
 use laying::lay_all;
 
 // The number of pieces that now stand at the front of the table; or the units do not fit, and the table keeps what it held.
-#[derive(Drop)]
+#[derive(Clone, Copy)]
 pub enum Laid {
     Pieces(usize),
     Unfit,

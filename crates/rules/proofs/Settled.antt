@@ -4,6 +4,8 @@ mod Sets
 pub mod Accepted
 pub mod Overloads
 mod Lines
+mod Steps
+mod Bounds
 pub mod Finishes
 use Rattle.rules.specs.Settled.{settled, AllHold}
 use Rattle.rules.proofs.Settled.Accepted.{allocation1, p1, p5, p7, p8}

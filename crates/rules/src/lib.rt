@@ -26,7 +26,7 @@ pub enum Answer {
 }
 
 // What the test of one mask says: it is good, it is empty, or it names a missing core, the lowest such.
-#[derive(Drop)]
+#[derive(Clone, Copy)]
 pub enum MaskTest {
     Good,
     Empty,
@@ -34,14 +34,14 @@ pub enum MaskTest {
 }
 
 // The planner's answer with the number of pieces that it wrote: 0 for every refusal.
-#[derive(Drop)]
+#[derive(Clone, Copy)]
 pub struct Planned {
     pub answer: Answer,
     pub pieces: usize,
 }
 
 // The answer of the move count with the moves: 0 for every refusal.
-#[derive(Drop)]
+#[derive(Clone, Copy)]
 pub struct Counted {
     pub answer: Answer,
     pub moves: usize,
@@ -49,7 +49,7 @@ pub struct Counted {
 
 // What each call on plain arrays hands back to C, by value: the number of the answer, the values that it carries, and a count.
 #[repr(C)]
-#[derive(Drop)]
+#[derive(Clone, Copy)]
 pub struct Reply {
     pub number: u64,
     pub first: u64,

@@ -93,7 +93,7 @@ fn read_tasks(line: &[u8], n: usize, budgets: &mut [u32], masks: &mut [u16])
 }
 
 // The numbers of a set, whose budgets and masks stand at the front of two lists; or the line is refused.
-#[derive(Drop)]
+#[derive(Clone, Copy)]
 pub enum SetRead {
     Refused,
     Set {

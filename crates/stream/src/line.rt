@@ -6,7 +6,7 @@ ghost use Rattle.stream.specs.Taking.{kept_count, taking};
 pub(crate) const LINE_FEED: u8 = 10;
 
 // Where the next byte of the chunk stands, how many bytes of the line are kept, and whether its line feed came.
-#[derive(Drop)]
+#[derive(Clone, Copy)]
 pub struct Taken {
     pub at: usize,
     pub len: usize,
@@ -15,7 +15,7 @@ pub struct Taken {
 
 // What a program's step over a chunk leaves: how many of its bytes are taken, how many of the begun line are kept, and how many of the
 // output are written.
-#[derive(Drop)]
+#[derive(Clone, Copy)]
 pub struct Stage {
     pub taken: usize,
     pub len: usize,

@@ -38,7 +38,7 @@ fn test_mask(mask: u16, cores: u32) -> MaskTest
 }
 
 // What tests say.
-#[derive(Drop)]
+#[derive(Clone, Copy)]
 pub enum Verdict {
     Refused(Answer),
     Passed,

@@ -1,19 +1,18 @@
 -- P1's check and moves; P9 and P10, by the definition of finish: the instant before it has too few units, and units never fall.
 -- Assumes nothing.
-use mathlib.Core.Path.{◌≡◌, refl, sym, ◌∙◌, ap, subst, subst⁻¹}
+use mathlib.Core.Path.{◌≡◌, refl, ◌∙◌, ap, subst, subst⁻¹}
 use mathlib.Core.List.{List, [], ◌∷◌, ◌++◌}
-use Prim.Native.Nat.{ℕ, zero, suc, ◌+◌, ◌*◌, ◌-◌, ◌≤◌, ◌<◌}
-use native.Mathlib.Decide.{dec_le}
+use Prim.Native.Nat.{ℕ, zero, suc, ◌+◌, ◌-◌, ◌≤◌, ◌<◌}
 use native.Mathlib.Omega.{arith}
 use lib.Dec.{lit<, lit≤}
 use lib.ListN.{length, drop, length-append, length-drop}
 use lib.Seq.{drop_at}
 use borrow.Author.Tests.{le-ltb}
 use Rattle.rules.specs.Sum.{sum_to, lowest}
-use Rattle.rules.specs.Piece.{Piece, first_pieces, pieces_of}
+use Rattle.rules.specs.Piece.{first_pieces, pieces_of}
 use Rattle.rules.specs.FrameTable.{every, every_two, sound, ordered, overlap, core_apart, task_apart, frame_pieces, frame_table}
 use Rattle.rules.specs.Moves.{insert, by_start, changes_after, changes, moves}
-use Rattle.rules.specs.Service.{covers, covered, unit, units}
+use Rattle.rules.specs.Service.{covers, covered, units}
 use Rattle.rules.specs.Finish.{Finish, begin_of, Finishes}
 use Rattle.rules.specs.Paced.{Paced, Bounded}
 use Rattle.rules.specs.Tests.{Tested, passed, bad_frame, bad_cores}
@@ -24,38 +23,8 @@ use Rattle.rules.specs.Walked.{walk_tested, WalkDone, WalkAnswerAt}
 use Rattle.rules.specs.Settled.{OnlyFinishes, Holds, moved, finishes, paced, tableP1}
 use Rattle.rules.specs.declared.Answer.TheVariants.{Accepted}
 use Rattle.rules.proofs.Walked.{walked_unique}
-
-sums_grow : (f : ℕ → ℕ) (a b : ℕ) → a ≤ b → sum_to a f ≤ sum_to b f
-unfolding sum_to
-sums_grow f a zero h = subst (λ (k : ℕ). sum_to k f ≤ sum_to 0 f) (sym (none a h)) (lit≤ tt)
-  where
-    none : (a : ℕ) → a ≤ 0 → a ≡ 0
-    none a h = omega arith
-sums_grow f a (suc b) h =
-    elim (dec_le a b) [
-      | yes l ↦ omega (arith, sums_grow f a b l)
-      | no g ↦ subst (λ (k : ℕ). sum_to k f ≤ sum_to (suc b) f) (sym (top a b h g)) (omega arith)
-    ]
-  where
-    top : (a b : ℕ) → a ≤ suc b → (a ≤ b → ⊥) → a ≡ suc b
-    top a b h g = omega arith
-
-module _ (F : ℕ) (ps : List Piece) (task begin job : ℕ) where
-  -- enough at suc e, too few at e
-  finish_step : (e : ℕ) → begin ≤ suc e → units F ps task begin + job ≤ units F ps task (suc e) → units F ps task e < units F ps task begin + job
-      → Finish F ps task begin job (suc e)
-  finish_step e b enough few =
-      record {
-        not_before = b;
-        enough = enough;
-        least = λ d l h. elim (dec_le (suc e) d) [ yes p ↦ p | no q ↦ absurd (beat (sums_grow (unit F ps task) d e (down q)) h few) ];
-      }
-    where
-      down : {a b : ℕ} → (suc a ≤ b → ⊥) → b ≤ a
-      down h = omega arith
-
-      beat : {a b c : ℕ} → a ≤ b → c ≤ a → b < c → ⊥
-      beat p q r = omega arith
+use Rattle.rules.proofs.Settled.Steps.{finish_step}
+use Rattle.rules.proofs.Settled.Bounds.{bounded10, far2}
 
 -- where the tests pass and these are the finishes, walk has one answer
 module _ (F m : ℕ) (table : List ℕ) (task : ℕ) (releases jobs fs : List ℕ)
@@ -127,9 +96,6 @@ second10 : Finish 6 (pieces_of tableP1) 0 14 6 22
 unfolding first_pieces covers covered sum_to
 second10 = finish_step 6 (pieces_of tableP1) 0 14 6 21 (lit≤ tt) (lit≤ tt) (lit< tt)
 
-far2 : (k : ℕ) → suc (suc k) < 2 → ⊥
-far2 k l = omega arith
-
 all10 : (before : List ℕ) → Finishes 6 (pieces_of tableP1) 0 2 (at (4 ∷ 13 ∷ [])) (at (6 ∷ 6 ∷ [])) (at (14 ∷ 22 ∷ drop 2 before))
 unfolding begin_of
 all10 before zero l = first10
@@ -151,17 +117,6 @@ premises10 = record { enough = lit≤ tt; apart = apart; small = small }
     small zero l = lit≤ tt
     small (suc zero) l = lit≤ tt
     small (suc (suc k)) l = absurd (far2 k l)
-
-bounded10 : (rest : List ℕ) → Bounded 6 9 2 (at (4 ∷ 13 ∷ [])) (at (14 ∷ 22 ∷ rest))
-bounded10 rest = record { by_frame = by_frame; by_period = λ q e. absurd (divides q e) }
-  where
-    by_frame : (k : ℕ) → k < 2 → at (14 ∷ 22 ∷ rest) k ≤ at (4 ∷ 13 ∷ []) k + 9 + 6
-    by_frame zero l = lit≤ tt
-    by_frame (suc zero) l = lit≤ tt
-    by_frame (suc (suc k)) l = absurd (far2 k l)
-
-    divides : (q : ℕ) → 9 ≡ q * 6 → ⊥
-    divides q e = omega arith
 
 pub paced10 : Holds (paced 6 2 tableP1 0 (4 ∷ 13 ∷ []) (6 ∷ 6 ∷ []) 9 6 13 19)
 paced10 =

@@ -1,7 +1,6 @@
 -- `before::ahead_of_task` meets its contract.
-use Rattle.stretches.specs.Cell.{cell}
-use Rattle.stretches.specs.Cell.{cell}
 use Rattle.std.proofs.Common.{rules}
+use Rattle.stretches.specs.Cell.{cell}
 use Rattle.layout.proofs.AheadLaws.{task_itself, task_after, sum_part, task_fits}
 use Rattle.layout.proofs.before.ahead_of_task.Goals as goal
 

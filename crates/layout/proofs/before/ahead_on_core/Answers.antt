@@ -1,9 +1,7 @@
 -- `before::ahead_on_core` meets its contract.
-use Rattle.stretches.specs.Cell.{cell}
-use Rattle.layout.proofs.AheadLaws.{ahead_fits}
-use Rattle.stretches.specs.Cell.{cell}
 use Rattle.std.proofs.Common.{rules}
-use Rattle.layout.proofs.AheadLaws.{sum_part, ahead_root, ahead_itself, ahead_after}
+use Rattle.stretches.specs.Cell.{cell}
+use Rattle.layout.proofs.AheadLaws.{ahead_fits, sum_part, ahead_root, ahead_itself, ahead_after}
 use Rattle.layout.proofs.before.ahead_on_core.Goals as goal
 
 pub column-requires : goal.column-requires

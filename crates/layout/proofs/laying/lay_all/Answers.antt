@@ -1,7 +1,6 @@
 -- `laying::lay_all` meets its contract: the walk gives the starts, and the pieces of all cores make the table.
-use Rattle.layout.proofs.LayOutLaws.{out_done}
 use Rattle.std.proofs.Common.{rules}
-use Rattle.layout.proofs.LayOutLaws.{out_asks}
+use Rattle.layout.proofs.LayOutLaws.{out_done, out_asks}
 use Rattle.layout.proofs.laying.lay_all.Goals as goal
 
 pub lay_cores-requires : goal.lay_cores-requires

@@ -1,7 +1,6 @@
 -- `pieces::add_stretch` meets its contract: one piece, or two where the stretch crosses the end.
-use Rattle.layout.proofs.InsertLaws.{cut_two}
 use Rattle.std.proofs.Common.{rules}
-use Rattle.layout.proofs.InsertLaws.{room_one, room_less, room_two, cut_one}
+use Rattle.layout.proofs.InsertLaws.{cut_two, room_one, room_less, room_two, cut_one}
 use Rattle.layout.proofs.pieces.add_stretch.Goals as goal
 
 pub insert_piece-requires : goal.insert_piece-requires

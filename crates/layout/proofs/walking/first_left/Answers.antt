@@ -1,7 +1,6 @@
-use Rattle.layout.proofs.WalkLaws.{left_hit}
 use Rattle.std.proofs.Common.{rules, arith}
+use Rattle.layout.proofs.WalkLaws.{left_hit, left_more}
 use Rattle.sums.proofs.Lowest.{lowest_begin}
-use Rattle.layout.proofs.WalkLaws.{left_more}
 use Rattle.layout.proofs.walking.first_left.Goals as goal
 
 pub loop-j-init : goal.loop-j-init

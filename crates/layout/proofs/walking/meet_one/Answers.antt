@@ -1,5 +1,4 @@
-use Rattle.layout.proofs.WalkLaws.{met_new}
-use Rattle.layout.proofs.WalkLaws.{met_none, met_old, ahead_asks}
+use Rattle.layout.proofs.WalkLaws.{met_new, met_none, met_old, ahead_asks}
 use Rattle.layout.proofs.walking.meet_one.Goals as goal
 
 pub returns-then-units-task-eq0 : goal.returns-then-units-task-eq0

@@ -1,9 +1,7 @@
-use Rattle.planner.proofs.WayLaws.{other_none}
+use Rattle.std.proofs.Common.{rules}
+use Rattle.planner.proofs.WayLaws.{other_none, other_found}
 use Rattle.forest.specs.Stripping.{links}
 use Rattle.stretches.specs.Cell.{cell}
-use Rattle.planner.proofs.WayLaws.{other_found}
-use Rattle.stretches.specs.Cell.{cell}
-use Rattle.std.proofs.Common.{rules}
 use Rattle.planner.proofs.cycle.other_core.Goals as goal
 
 pub returns : goal.returns

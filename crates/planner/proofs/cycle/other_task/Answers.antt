@@ -1,9 +1,7 @@
-use Rattle.forest.specs.Stripping.{links}
-use Rattle.planner.proofs.WayLaws.{other_none}
-use Rattle.stretches.specs.Cell.{cell}
-use Rattle.planner.proofs.WayLaws.{other_found}
-use Rattle.stretches.specs.Cell.{cell}
 use Rattle.std.proofs.Common.{rules}
+use Rattle.forest.specs.Stripping.{links}
+use Rattle.planner.proofs.WayLaws.{other_none, other_found}
+use Rattle.stretches.specs.Cell.{cell}
 use Rattle.planner.proofs.cycle.other_task.Goals as goal
 
 pub returns-then-suits : goal.returns-then-suits

@@ -1,6 +1,5 @@
-use Rattle.planner.proofs.DecideLaws.{decided_whole, decided_short}
-use Rattle.planner.proofs.DecideLaws.{fill_ready}
 use Rattle.std.proofs.Common.{rules}
+use Rattle.planner.proofs.DecideLaws.{decided_whole, decided_short, fill_ready}
 use Rattle.planner.proofs.decide.decide.Goals as goal
 
 pub fill-filled-requires : goal.fill-filled-requires

@@ -1,6 +1,5 @@
-use Rattle.planner.proofs.GoBackLaws.{on_less}
 use Rattle.std.proofs.Common.{rules, arith}
-use Rattle.planner.proofs.GoBackLaws.{on_small, on_fits, on_last_fits, on_next, on_last}
+use Rattle.planner.proofs.GoBackLaws.{on_less, on_small, on_fits, on_last_fits, on_next, on_last}
 use Rattle.planner.proofs.flow.go_back.Goals as goal
 
 pub offset_bounds-via-p : goal.offset_bounds-via-p

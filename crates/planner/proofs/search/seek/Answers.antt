@@ -1,6 +1,5 @@
-use Rattle.planner.proofs.SeekLaws.{place_small}
 use Rattle.std.proofs.Common.{rules, arith}
-use Rattle.planner.proofs.SeekLaws.{sought_start, sought_room, sought_end, sought_more}
+use Rattle.planner.proofs.SeekLaws.{place_small, sought_start, sought_room, sought_end, sought_more}
 use Rattle.planner.proofs.search.seek.Goals as goal
 
 pub loop-head-init : goal.loop-head-init

@@ -1,6 +1,5 @@
-use Rattle.planner.proofs.ShiftLaws.{shift_task, shift_core, shift_to, shift_differ, shift_enough, shift_fits}
 use Rattle.std.proofs.Common.{rules}
-use Rattle.planner.proofs.ShiftLaws.{shift_again, shift_keeps, shift_fewer}
+use Rattle.planner.proofs.ShiftLaws.{shift_task, shift_core, shift_to, shift_differ, shift_enough, shift_fits, shift_again, shift_keeps, shift_fewer}
 use Rattle.planner.proofs.shift.shift.Goals as goal
 
 pub move_units-requires : goal.move_units-requires

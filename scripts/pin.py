@@ -418,8 +418,8 @@ def verdict(status, said, copy):
     if status not in (0, 1):
         return "no end", said[-400:]
     if not own:
-        proved = re.search(rf"^fn rules{copy}::number: proved", said, flags=re.M)
-        return ("left", "") if proved else ("refused", f"fn number: not proved")
+        proved = re.search(rf"^fn rules{copy}::U8FromAnswer::from: proved", said, flags=re.M)
+        return ("left", "") if proved else ("refused", "an answer's number: not proved")
     if any("/specs/" in error.split(": error:")[0] for error in own):
         return "no program", own[0]
     roots = [error for error in own if not FOLLOWS.match(error)]

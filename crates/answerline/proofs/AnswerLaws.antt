@@ -1,7 +1,8 @@
 -- Laws on what stands after an answer's number, as it is written: one for each arm of the match.
 -- Assumes nothing.
 use mathlib.Core.Path.{◌≡◌, refl, sym, ◌∙◌, ap}
-use mathlib.Core.List.{List, [], append-nil}
+use mathlib.Core.Logic.{◌⊎◌, inl, inr}
+use mathlib.Core.List.{List, [], ◌++◌, append-nil}
 use Prim.Native.Nat.{ℕ, ◌+◌, ◌*◌, ◌≤◌}
 use native.Mathlib.Omega.{arith}
 use lib.ListN.{length, length-append}
@@ -19,41 +20,48 @@ use Rattle.answerline.proofs.PieceLaws.{length_pieces}
 abbrev pub Ends : List ℕ → List ℕ → ℕ → List ℕ → Type 0
 Ends o o₁ r l = (o₁ ≡ pasted o 2 l) × (r ≡ 2 + length l)
 
+-- o₁ is o with v as w bytes at p, and the next field begins at q
+abbrev Field : List ℕ → List ℕ → ℕ → ℕ → ℕ → ℕ → Type 0
+Field o o₁ p w v q = (o₁ ≡ pasted o p (bytes w v)) × (q ≡ p + 2 * w)
+
+-- two fields from the place 2 on
+two : (o o₁ o₂ : List ℕ) (w v w' v' q r : ℕ) → 2 + 2 * w ≤ length o → Field o o₁ 2 w v q → Field o₁ o₂ q w' v' r → Ends o o₂ r (bytes w v ++ bytes w' v')
+two o o₁ o₂ w v w' v' q r h f g = (
+  g.0
+      ∙ ap (λ (x : List ℕ). pasted x q (bytes w' v')) f.0
+      ∙ pasted_twice o 2 (bytes w v) q (bytes w' v') (f.1 ∙ simp length_digits) (omega (arith, f.1)),
+  simp (length-append, length_digits) (omega (arith, f.1, g.1)),
+)
+
+one : (o o₁ : List ℕ) (w v r : ℕ) → Field o o₁ 2 w v r → Ends o o₁ r (bytes w v)
+one o o₁ w v r f = (f.0, f.1 ∙ simp length_digits)
+
 module _ (a : Answer) where
-  pub rest_accepted : (o o₁ o₂ t : List ℕ) (n : ℕ) → a ≡ Accepted → 1906 ≤ length o → o₁ ≡ pasted o 2 (bytes 2 n) → o₂ ≡ pasted o₁ 6 (piece_lines (first_pieces t n))
-      → Ends o o₂ (6 + 20 * n) (answer_rest a (first_pieces t n))
+  pub rest_accepted : (o o₁ o₂ t : List ℕ) (n q r : ℕ) → a ≡ Accepted → 1906 ≤ length o → Field o o₁ 2 2 n q → (o₂ ≡ pasted o₁ 6 (piece_lines (first_pieces t n))) × (r ≡ 6 + 20 * n)
+      → Ends o o₂ r (answer_rest a (first_pieces t n))
   unfolding line_widths values_line answer_rest
-  rest_accepted o o₁ o₂ t n e h e₁ e₂ = (
-    e₂
-        ∙ ap (λ (x : List ℕ). pasted x 6 (piece_lines (first_pieces t n))) e₁
+  rest_accepted o o₁ o₂ t n q r e h f g = (
+    g.0
+        ∙ ap (λ (x : List ℕ). pasted x 6 (piece_lines (first_pieces t n))) f.0
         ∙ pasted_twice o 2 (bytes 2 n) 6 (piece_lines (first_pieces t n)) (simp length_digits) (omega arith)
         ∙ simp (e, length_first),
-    simp (e, length-append, length_digits, length_pieces, length_first) (omega arith),
+    simp (e, length-append, length_digits, length_pieces, length_first) (omega (arith, g.1)),
   )
 
-  pub rest_empty : (o o₁ : List ℕ) (ps : List Piece) (task : ℕ) → a ≡ EmptyMask task → o₁ ≡ pasted o 2 (bytes 1 task) → Ends o o₁ 4 (answer_rest a ps)
+  pub rest_task : (o o₁ : List ℕ) (ps : List Piece) (task r : ℕ) → (a ≡ EmptyMask task) ⊎ (a ≡ Budget task) → Field o o₁ 2 1 task r → Ends o o₁ r (answer_rest a ps)
   unfolding line_widths values_line answer_rest
-  rest_empty o o₁ ps task e e₁ = simp (e, append-nil) (e₁, simp length_digits)
+  rest_task o o₁ ps task r (inl e) f = simp (e, append-nil) (one o o₁ 1 task r f)
+  rest_task o o₁ ps task r (inr e) f = simp (e, append-nil) (one o o₁ 1 task r f)
 
-  pub rest_budget : (o o₁ : List ℕ) (ps : List Piece) (task : ℕ) → a ≡ Budget task → o₁ ≡ pasted o 2 (bytes 1 task) → Ends o o₁ 4 (answer_rest a ps)
+  pub rest_overloaded : (o o₁ o₂ : List ℕ) (ps : List Piece) (g c x q r : ℕ) → a ≡ Overloaded g c → x ≡ c → 1906 ≤ length o → Field o o₁ 2 8 g q → Field o₁ o₂ q 2 x r
+      → Ends o o₂ r (answer_rest a ps)
   unfolding line_widths values_line answer_rest
-  rest_budget o o₁ ps task e e₁ = simp (e, append-nil) (e₁, simp length_digits)
+  rest_overloaded o o₁ o₂ ps g c x q r e v h f s = simp (e, append-nil, ← v) (two o o₁ o₂ 8 g 2 x q r (omega arith) f s)
 
-  pub rest_overloaded : (o o₁ o₂ : List ℕ) (ps : List Piece) (g c : ℕ) → a ≡ Overloaded g c → 1906 ≤ length o → o₁ ≡ pasted o 2 (bytes 8 g) → o₂ ≡ pasted o₁ 18 (bytes 2 c)
-      → Ends o o₂ 22 (answer_rest a ps)
+  pub rest_missing : (o o₁ o₂ : List ℕ) (ps : List Piece) (task core x q r : ℕ) → a ≡ MissingCore task core → x ≡ core → 1906 ≤ length o → Field o o₁ 2 1 task q → Field o₁ o₂ q 1 x r
+      → Ends o o₂ r (answer_rest a ps)
   unfolding line_widths values_line answer_rest
-  rest_overloaded o o₁ o₂ ps g c e h e₁ e₂ = (
-    e₂ ∙ ap (λ (x : List ℕ). pasted x 18 (bytes 2 c)) e₁ ∙ pasted_twice o 2 (bytes 8 g) 18 (bytes 2 c) (simp length_digits) (omega arith) ∙ simp (e, append-nil),
-    simp (e, append-nil, length-append, length_digits),
-  )
-
-  pub rest_missing : (o o₁ o₂ : List ℕ) (ps : List Piece) (task core : ℕ) → a ≡ MissingCore task core → 1906 ≤ length o → o₁ ≡ pasted o 2 (bytes 1 task) → o₂ ≡ pasted o₁ 4 (bytes 1 core)
-      → Ends o o₂ 6 (answer_rest a ps)
-  unfolding line_widths values_line answer_rest
-  rest_missing o o₁ o₂ ps task core e h e₁ e₂ = (
-    e₂ ∙ ap (λ (x : List ℕ). pasted x 4 (bytes 1 core)) e₁ ∙ pasted_twice o 2 (bytes 1 task) 4 (bytes 1 core) (simp length_digits) (omega arith) ∙ simp (e, append-nil),
-    simp (e, append-nil, length-append, length_digits),
-  )
+  rest_missing o o₁ o₂ ps task core x q r e v h f s = simp (e, append-nil, ← v) (two o o₁ o₂ 1 task 1 x q r (omega arith) f s)
 
 -- the other answers carry nothing on a line
 rest_none : (a : Answer) (ps : List Piece) → (a ≡ Accepted → ⊥) → ((task : ℕ) → a ≡ EmptyMask task → ⊥) → ((task : ℕ) → a ≡ Budget task → ⊥)
@@ -79,10 +87,10 @@ pub rest_other : (a : Answer) (o : List ℕ) (ps : List Piece) → (a ≡ Accept
 rest_other a o ps n₀ n₄ n₅ n₇ n₁₃ = simp (rest_none a ps n₀ n₄ n₅ n₇ n₁₃) (sym (pasted_none o 2), refl)
 
 -- the number and the rest
-pub answer_put : (a : Answer) (ps : List Piece) (o o₁ o₂ : List ℕ) (n r : ℕ) → n ≡ number_of a → 1906 ≤ length o → o₁ ≡ pasted o 0 (bytes 1 n) → Ends o₁ o₂ r (answer_rest a ps)
+pub answer_put : (a : Answer) (ps : List Piece) (o o₁ o₂ : List ℕ) (n m q r : ℕ) → n ≡ number_of a → m ≡ n → 1906 ≤ length o → Field o o₁ 0 1 m q → Ends o₁ o₂ r (answer_rest a ps)
     → (o₂ ≡ pasted o 0 (answer_line a ps)) × (r ≡ length (answer_line a ps))
 unfolding answer_line
-answer_put a ps o o₁ o₂ n r e h e₁ g = (
-  g.0 ∙ ap (λ (x : List ℕ). pasted x 2 (answer_rest a ps)) e₁ ∙ pasted_twice o 0 (bytes 1 n) 2 (answer_rest a ps) (simp length_digits) (omega arith) ∙ simp e,
+answer_put a ps o o₁ o₂ n m q r e f h e₁ g = (
+  g.0 ∙ ap (λ (x : List ℕ). pasted x 2 (answer_rest a ps)) e₁.0 ∙ pasted_twice o 0 (bytes 1 m) 2 (answer_rest a ps) (simp length_digits) (omega arith) ∙ simp (f, e),
   g.1 ∙ simp (length-append, length_digits),
 )

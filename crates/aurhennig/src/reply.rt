@@ -5,51 +5,31 @@ ghost use Rattle.rules.specs.Reply.{reply_of};
 
 use rules::{Answer, Reply};
 
-// The first value that an answer carries: a task, a group or a job.
-fn first_of(answer: Answer) -> u64
-    ensures { result ≡ get_or (values_of answer) 0 0 }
+// The two values that an answer carries, and 0 for one that it has not, as C reads them: first a task, a group or a job, then the cores of a
+// group or a missing core. There is no From of a usize for a u64, so a usize is cast.
+fn values(answer: Answer) -> (u64, u64)
+    ensures { (result.0 ≡ get_or (values_of answer) 0 0) × (result.1 ≡ get_or (values_of answer) 1 0) }
 {
     match answer {
-        Answer::EmptyMask(task) => task as u64,
-        Answer::Budget(task) => task as u64,
-        Answer::Overloaded { group, cores: _ } => group,
-        Answer::JobList(job) => job as u64,
-        Answer::NoUnits(job) => job as u64,
-        Answer::MissingCore { task, core: _ } => task as u64,
-        _ => 0,
+        Answer::EmptyMask(task) | Answer::Budget(task) => (task as u64, 0),
+        Answer::Overloaded { group, cores } => (group, u64::from(cores)),
+        Answer::JobList(job) | Answer::NoUnits(job) => (job as u64, 0),
+        Answer::MissingCore { task, core } => (task as u64, u64::from(core)),
+        _ => (0, 0),
     }
 }
 
-// The second: the cores of a group, or a missing core.
-fn second_of(answer: Answer) -> u64
-    ensures { result ≡ get_or (values_of answer) 1 0 }
-{
-    match answer {
-        Answer::Overloaded { group: _, cores } => cores as u64,
-        Answer::MissingCore { task: _, core } => core as u64,
-        _ => 0,
-    }
-}
-
-// A refusal counts nothing.
+// A refusal counts nothing. The number decides, as in `reply_of`.
 pub(crate) fn reply(answer: Answer, count: usize) -> Reply
     ensures { result ≡ reply_of answer count }
 {
-    let number = rules::number(answer) as u64;
-    let first = first_of(answer);
-    let second = second_of(answer);
-    if number != 0 {
-        return Reply {
-            number,
-            first,
-            second,
-            count: 0,
-        };
-    }
+    let number = u64::from(u8::from(answer));
+    let (first, second) = values(answer);
+    let count = if number == 0 { count as u64 } else { 0 };
     Reply {
         number,
         first,
         second,
-        count: count as u64,
+        count,
     }
 }

@@ -1,1 +1,1 @@
-mod Zeros
+mod Fields

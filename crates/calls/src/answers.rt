@@ -4,17 +4,20 @@ ghost use Rattle.std.specs.Prelude.{◌+◌, ◌*◌, ◌≤◌, length};
 use fields::put_field;
 use rules::Answer;
 
-// The first `count` values, of `width` bytes each, after the number. Hands back where the line ends.
-fn put_values(out: &mut [u8], values: &[u64], count: usize, width: usize) -> usize
-    requires { (width ≤ 8) × (count ≤ length values.now) × (count ≤ 6187) }
-    ensures { result ≤ 2 + 16 * count }
+// The number of an answer.
+fn put_number(out: &mut [u8], answer: Answer) {
+    put_field(out, 0, 1, u64::from(u8::from(answer)));
+}
+
+// The values, of `width` bytes each, after the number. Hands back where the line ends.
+fn put_values(out: &mut [u8], values: &[u64], width: usize) -> usize
+    requires { (width ≤ 8) × (length values.now ≤ 6187) }
+    ensures { result ≤ 2 + 16 * length values.now }
 {
     let mut at = 2;
-    let mut i = 0;
-    while i < count {
-        put_field(out, at, width, values[i]);
+    for value in values {
+        put_field(out, at, width, *value);
         at += 2 * width;
-        i += 1;
     }
     at
 }
@@ -23,24 +26,19 @@ fn put_values(out: &mut [u8], values: &[u64], count: usize, width: usize) -> usi
 fn put_job(out: &mut [u8], job: usize) -> usize
     ensures { result ≤ 10 }
 {
+    // there is no From of a usize for a u64
     put_field(out, 2, 4, job as u64);
     10
 }
 
 // The line of an answer, and where it ends.
-pub(crate) fn put_answer(
-    out: &mut [u8],
-    answer: Answer,
-    values: &[u64],
-    count: usize,
-    width: usize,
-) -> usize
-    requires { (width ≤ 8) × (count ≤ length values.now) × (count ≤ 6187) }
-    ensures { result ≤ 10 + 16 * count }
+pub(crate) fn put_answer(out: &mut [u8], answer: Answer, values: &[u64], width: usize) -> usize
+    requires { (width ≤ 8) × (length values.now ≤ 6187) }
+    ensures { result ≤ 10 + 16 * length values.now }
 {
-    put_field(out, 0, 1, rules::number(answer) as u64);
+    put_number(out, answer);
     match answer {
-        Answer::Accepted => put_values(out, values, count, width),
+        Answer::Accepted => put_values(out, values, width),
         Answer::JobList(job) | Answer::NoUnits(job) => put_job(out, job),
         _ => 2,
     }
@@ -50,6 +48,6 @@ pub(crate) fn put_answer(
 pub(crate) fn put_bad_line(out: &mut [u8]) -> usize
     ensures { result ≤ 10 }
 {
-    put_field(out, 0, 1, rules::number(Answer::BadLine) as u64);
+    put_number(out, Answer::BadLine);
     2
 }

@@ -22,25 +22,21 @@ const OUTPUT_BYTES: usize = 99003;
 // Every line of the input, to its end or until reading or writing fails. Each answer line is written by itself.
 fn answer_all<R: Read, W: Write>(
     input: &mut [u8],
-    line: &mut [u8],
-    out: &mut [u8],
+    line: &mut [u8; LINE_BYTES],
+    out: &mut [u8; OUTPUT_BYTES],
     from: &mut R,
     to: &mut W,
-) -> Source
-    requires { (length line.old ≤ 99003) × (99003 ≤ length out.old) }
-{
-    let mut source = stream::start();
+) -> Source {
+    let mut source = Source::start();
     let mut len = 0;
     loop {
-        source = stream::more(source, input, from);
-        let at = source.at;
-        let end = source.end;
-        if at == end {
-            return source;
+        let chunk = source.more(input, from);
+        if chunk.at == chunk.end {
+            return chunk;
         }
-        let stage = next(&input[at..end], line, len, out);
+        let stage = next(&input[chunk.at..chunk.end], line, len, out);
         len = stage.len;
-        source = stream::pass_on(source, stage.taken, out, stage.used, to);
+        source = chunk.pass_on(stage.taken, &out[..stage.used], to);
     }
 }
 
@@ -51,5 +47,5 @@ fn main(rt: HostRuntime) {
     let mut line = [0u8; LINE_BYTES];
     let mut output = [0u8; OUTPUT_BYTES];
     let end = answer_all(&mut input, &mut line, &mut output, &mut from, &mut to);
-    stream::report(b"calls", end, &mut rt.stderr());
+    end.report(b"calls", &mut rt.stderr());
 }

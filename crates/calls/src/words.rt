@@ -1,46 +1,51 @@
-// What a line lends, by the byte where it begins: words of 4 bytes, counts of 2 and releases of 8.
+// The line of a call, and what it lends by the byte where it begins: words of 4 bytes, counts of 2 and releases of 8.
 ghost use Rattle.std.specs.Prelude.{◌≡◌, ◌+◌, ◌*◌, ◌≤◌, ◌<◌, length};
 
 use fields::field_at;
 
-// A field of 4 bytes, so the remainder drops none.
-pub(crate) fn word_at(line: &[u8], at: usize) -> u32 {
-    (field_at(line, at, 4) % 4294967296) as u32
+// A line as the program keeps it: of a longer one the first 99,003 bytes.
+#[derive(Clone, Copy)]
+pub(crate) struct CallLine<'a> {
+    pub bytes: &'a [u8],
+    ghost short: { length bytes.now ≤ 99003 },
 }
 
-// A field of 2 bytes: how many a list has.
-pub(crate) fn count_at(line: &[u8], at: usize) -> usize
-    ensures { result < 65536 }
-{
-    (field_at(line, at, 2) % 65536) as usize
-}
-
-// Fills the list with the words from byte `at` on. Hands back the byte past them.
-pub(crate) fn read_words(line: &[u8], at: usize, words: &mut [u32]) -> usize
-    requires { at + 4 * length words.old ≤ 99002 }
-    ensures { result ≡ at + 4 * length words.old }
-{
-    let mut past = at;
-    let mut i = 0;
-    while i < words.len() {
-        words[i] = word_at(line, past);
-        past += 4;
-        i += 1;
+impl<'a> CallLine<'a> {
+    // A field of 4 bytes, so the cast is proved to lose nothing.
+    #[tactic(auto, using(crate::proofs::Fields::word_below))]
+    pub(crate) fn word_at(self, at: usize) -> u32 {
+        field_at(self.bytes, at, 4) as u32
     }
-    past
+
+    // A field of 8 bytes.
+    pub(crate) fn release_at(self, at: usize) -> u64 {
+        field_at(self.bytes, at, 8)
+    }
+
+    // A field of 2 bytes, cast likewise: how many a list has.
+    #[tactic(auto, using(crate::proofs::Fields::count_below))]
+    pub(crate) fn count_at(self, at: usize) -> usize
+        ensures { result < 65536 }
+    {
+        field_at(self.bytes, at, 2) as usize
+    }
 }
 
-// Fills the list with the releases from byte `at` on. Hands back the byte past them.
-pub(crate) fn read_releases(line: &[u8], at: usize, releases: &mut [u64]) -> usize
-    requires { at + 8 * length releases.old ≤ 99002 }
-    ensures { result ≡ at + 8 * length releases.old }
+// Fills the list with fields of `width` bytes from byte `at` on, each read by `read`. Hands back the byte past them.
+pub(crate) fn read_list<T: Copy, F: Fn(usize) -> T>(
+    at: usize,
+    width: usize,
+    read: F,
+    list: &mut [T],
+) -> usize
+    requires callable { F.IsAlwaysCallable read }
+    requires room { at + width * length list.old ≤ 99002 }
+    ensures { result ≡ at + width * length list.old }
 {
     let mut past = at;
-    let mut i = 0;
-    while i < releases.len() {
-        releases[i] = field_at(line, past, 8);
-        past += 8;
-        i += 1;
+    for x in list.iter_mut() {
+        *x = read(past);
+        past += width;
     }
     past
 }

@@ -2,5 +2,4 @@ pub mod DigitLaws
 pub mod FieldLaws
 pub mod PastedLaws
 pub mod ReadBack
-pub mod Taking
 pub mod Unique

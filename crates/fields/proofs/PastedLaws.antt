@@ -1,14 +1,17 @@
 -- Laws on bytes written into an output: digits from the last to the first, one run of bytes after another, and a field.
 -- Assumes nothing.
 use mathlib.Core.Path.{◌≡◌, refl, sym, ◌∙◌, ap}
-use mathlib.Core.List.{List, [], ◌∷◌, ◌++◌, append_assoc}
+use mathlib.Core.List.{List, [], ◌∷◌, ◌++◌, append_assoc, append-nil}
 use Prim.Native.Nat.{ℕ, zero, suc, ◌+◌, ◌-◌, ◌*◌, ◌/◌, ◌%◌, ◌≤◌, ◌<◌}
 use native.Mathlib.Numerals.{unary_clauses}
 use native.Mathlib.Nat.{add_assoc, zero-add}
 use native.Mathlib.Omega.{arith}
 use lib.ListN.{length, take, drop, set, length-set, length-append, length-take, take-append-drop}
-use lib.Seq.{take-set-le, drop-cons, drop-set-lt, get_or-set_same, drop-append-add, drop-drop, take_at}
+use lib.Seq.{drop-cons, drop-set-lt, get_or-set_same, drop-append-add, drop-drop, drop-length, take_at}
 use borrow.Author.Tests.{le-leb, lt-leb}
+use borrow.Rule.Slice.PartMut.{put_mid}
+use Rattle.std.specs.List.{between}
+use Rattle.std.proofs.lemmas.List.Edits.{length-between}
 use Rattle.rules.specs.Line.{digit_of, digits, bytes}
 use Rattle.fields.specs.Pasted.{pasted, has_room, put_field}
 
@@ -17,40 +20,34 @@ unfolding digits
 length_digits zero v = refl
 length_digits (suc c) v = simp (length-append, length_digits c (v / 16), unary_clauses)
 
--- c digits of v from the place p on
-unfoldable pub written : List ℕ → ℕ → ℕ → ℕ → List ℕ
-written o p c v = take p o ++ (digits c v ++ drop (p + c) o)
-
-pub written_pasted : (o : List ℕ) (p c v : ℕ) → written o p c v ≡ pasted o p (digits c v)
-unfolding written pasted
-written_pasted o p c v = simp (length_digits)
-
--- nothing left to write
-written_none : (o : List ℕ) (p v : ℕ) → written o p 0 v ≡ o
-unfolding written digits
-written_none o p v = simp unary_clauses (take-append-drop p o)
+-- the places o, whose first c are still to be filled with the digits of v
+unfoldable pub filled : List ℕ → ℕ → ℕ → List ℕ
+filled o c v = digits c v ++ drop c o
 
 -- the last of i + 1 digits is written first
-written_step : (o : List ℕ) (p i v d : ℕ) → p + i < length o → d ≡ digit_of (v % 16) → written (set o (p + i) d) p i (v / 16) ≡ written o p (suc i) v
-unfolding written digits
-written_step o p i v d h e = simp (take-set-le p o (p + i) d (omega arith), rest, append_assoc, ← e, unary_clauses)
+filled_step : (o : List ℕ) (i v d : ℕ) → i < length o → d ≡ digit_of (v % 16) → filled (set o i d) i (v / 16) ≡ filled o (suc i) v
+unfolding filled digits
+filled_step o i v d h e = simp (rest, append_assoc, ← e)
   where
-    rest : drop (p + i) (set o (p + i) d) ≡ d ∷ drop (suc (p + i)) o
-    rest = drop-cons (set o (p + i) d) (p + i) 0 (simp length-set h) ∙ simp (get_or-set_same o (p + i) d 0 h, drop-set-lt (suc (p + i)) o (p + i) d (omega arith))
+    rest : drop i (set o i d) ≡ d ∷ drop (suc i) o
+    rest = drop-cons (set o i d) i 0 (simp length-set h) ∙ simp (get_or-set_same o i d 0 h, drop-set-lt (suc i) o i d (omega arith))
 
--- the loop that writes: what is still to be written gives the same output
-module _ (o w : List ℕ) (p i v : ℕ) (same : written o p i v ≡ w) where
-  pub put_more : (d : ℕ) → 0 < i → p + i ≤ length o → d ≡ digit_of (v % 16) → written (set o (p + (i - 1)) d) p (i - 1) (v / 16) ≡ w
-  put_more d h g e = written_step o p (i - 1) v d (omega arith) e ∙ ap (λ (k : ℕ). written o p k v) (back h) ∙ same
-    where
-      back : 0 < i → suc (i - 1) ≡ i
-      back h = omega arith
+pub filled_more : (o w : List ℕ) (i v d : ℕ) → filled o i v ≡ w → 0 < i → i ≤ length o → d ≡ digit_of (v % 16) → filled (set o (i - 1) d) (i - 1) (v / 16) ≡ w
+filled_more o w i v d same h g e = filled_step o (i - 1) v d (omega arith) e ∙ ap (λ (k : ℕ). filled o k v) (back h) ∙ same
+  where
+    back : 0 < i → suc (i - 1) ≡ i
+    back h = omega arith
 
-  pub put_done : i ≤ 0 → o ≡ w
-  put_done h = sym (written_none o p v) ∙ ap (λ (k : ℕ). written o p k v) (none h) ∙ same
-    where
-      none : i ≤ 0 → 0 ≡ i
-      none h = omega arith
+pub filled_first : (o : List ℕ) (v : ℕ) → filled o (length o) v ≡ digits (length o) v
+unfolding filled
+filled_first o v = simp (drop-length, append-nil)
+
+pub filled_last : (o w : List ℕ) (i v : ℕ) → filled o i v ≡ w → i ≤ 0 → o ≡ w
+unfolding filled digits
+filled_last o w i v e h = ap (λ (k : ℕ). digits k v ++ drop k o) (none h) ∙ e
+  where
+    none : i ≤ 0 → 0 ≡ i
+    none h = omega arith
 
 -- one run of bytes after another
 split_front : (x r b : List ℕ) (k : ℕ) → length x ≡ k → take k (x ++ r) ++ (b ++ drop (k + length b) (x ++ r)) ≡ x ++ (b ++ drop (length b) r)
@@ -78,6 +75,10 @@ pub pasted_front : (o l : List ℕ) → pasted o 0 l ≡ l ++ drop (length l) o
 unfolding pasted
 pasted_front o l = ap (λ (n : ℕ). l ++ drop n o) (zero-add (length l))
 
+pasted_bytes : (o : List ℕ) (p w v : ℕ) → pasted o p (bytes w v) ≡ take p o ++ (digits (2 * w) v ++ drop (p + 2 * w) o)
+unfolding pasted
+pasted_bytes o p w v = simp length_digits
+
 -- a field, where there is room for it and where there is none
 module _ (o : List ℕ) (p w v : ℕ) where
   pub put_wide : 8 < w → o ≡ put_field o p w v
@@ -91,3 +92,12 @@ module _ (o : List ℕ) (p w v : ℕ) where
   pub put_fits : w ≤ 8 → p + 2 * w ≤ length o → put_field o p w v ≡ pasted o p (bytes w v)
   unfolding put_field has_room
   put_fits a b = simp (le-leb w 8 a, le-leb (p + 2 * w) (length o) b)
+
+  -- the part that the field's digits fill
+  pub put_part : (ys : List ℕ) → w ≤ 8 → p + 2 * w ≤ length o → ys ≡ digits (length (between p (p + 2 * w) o)) v → put_mid p (p + 2 * w - p) o ys ≡ put_field o p w v
+  put_part ys a b e =
+      ap (λ (z : List ℕ). take p o ++ (z ++ drop (p + 2 * w - p) (drop p o))) (e ∙ ap (λ (n : ℕ). digits n v) (length-between o p (p + 2 * w) b ∙ part p (2 * w)))
+      ∙ simp (put_fits a b, drop-drop, part p (2 * w)) (sym (pasted_bytes o p w v))
+    where
+      part : (p n : ℕ) → p + n - p ≡ n
+      part p n = omega arith

@@ -10,4 +10,4 @@ mod reader;
 pub use digits::all_digits;
 pub use number::field_at;
 pub use paste::put_field;
-pub use reader::{Reader, start, take};
+pub use reader::Reader;

@@ -1,22 +1,20 @@
 // A number written as a field into a lent output.
-ghost use Rattle.std.specs.Prelude.{◌≡◌, ◌+◌, ◌≤◌, length};
+ghost use Rattle.std.specs.Prelude.{◌≡◌, length};
 ghost use Rattle.rules.specs.Line.{digits};
-ghost use Rattle.fields.specs.Pasted.{pasted, put_field};
+ghost use Rattle.fields.specs.Pasted.{put_field};
 
 use crate::digits::digit_of;
 use crate::number::ends_by;
 
-// Writes the last `count` digits of `value`, the highest first, at the place `at`.
-fn put_digits(out: &mut [u8], at: usize, count: usize, value: u64)
-    requires { at + count ≤ length out.old }
-    ensures { out.new ≡ pasted out.old at (digits count value) }
+// Fills the places with the last digits of `value`, the highest first.
+fn put_digits(places: &mut [u8], value: u64)
+    ensures { places.new ≡ digits (length places.old) value }
 {
     let mut v = value;
-    let mut i = count;
-    while 0 < i {
-        i -= 1;
-        out[at + i] = digit_of((v % 16) as u8);
-        v = v / 16;
+    for i in (0..places.len()).rev() {
+        // a remainder below 16, so the cast loses nothing
+        places[i] = digit_of((v % 16) as u8);
+        v /= 16;
     }
 }
 
@@ -25,11 +23,7 @@ fn put_digits(out: &mut [u8], at: usize, count: usize, value: u64)
 pub fn put_field(out: &mut [u8], at: usize, width: usize, value: u64)
     ensures { out.new ≡ put_field out.old at width value }
 {
-    if 8 < width {
-        return;
+    if width <= 8 && ends_by(at, 2 * width, out.len()) {
+        put_digits(&mut out[at..at + 2 * width], value);
     }
-    if !ends_by(at, 2 * width, out.len()) {
-        return;
-    }
-    put_digits(out, at, 2 * width, value);
 }

@@ -1,64 +1,58 @@
 -- Laws for `fitting`: what each test finds decides a part of `Fits`.
 -- Assumes nothing.
-use mathlib.Core.Path.{◌≡◌, sym, ap}
+use mathlib.Core.Path.{◌≡◌, refl, ◌∙◌, ap}
 use mathlib.Core.Bool.{Bool, true, false, not, true≢false, false≢true}
-use Prim.Native.Nat.{ℕ, ◌+◌, ◌≤◌, ◌<◌}
+use mathlib.Core.List.{List}
+use Prim.Native.Nat.{ℕ, zero, suc, ◌+◌, ◌≤◌, ◌<◌}
 use native.Mathlib.Decide.{ℕ_discrete, dec_le}
 use native.Mathlib.Omega.{arith}
-use lib.Dec.{leb}
-use borrow.Author.Tests.{le-leb, lt-leb, not-true, not-false}
-use Rattle.rules.specs.Sizes.{max_frame, max_tasks, max_cores}
-use Rattle.rules.specs.Sum.{positive}
-use Rattle.sums.proofs.Sum.{positive_of}
-use Rattle.sums.proofs.SumLoops.{sum_none, sum_more, sum_done}
-use Rattle.fitting.specs.Fits.{Fits, Tells}
-use Rattle.fitting.specs.Fitting.{Sized, AtMost, row_of, column_of, used_of, Counted}
+use lib.Dec.{leb, eqb}
+use lib.ListN.{length, get_or, take, drop}
+use mir.Val.{bool_byte}
+use Rattle.std.proofs.lemmas.List.{get_or-take, get_or-drop, length-take}
+use Rattle.std.specs.List.{fold, list_all, range_with_len, sum_by}
+use Rattle.std.proofs.Common.{add-zero, zero-add}
+use borrow.Author.Tests.{le-leb, lt-leb, ne_eqb}
+use Rattle.rules.specs.Sizes.{max_cores}
+use Rattle.rules.specs.Sum.{positive, sum_to}
+use Rattle.sums.proofs.SumLoops.{sum_none, sum_more}
+use Rattle.fitting.specs.Fits.{Tells}
+use Rattle.fitting.specs.Fitting.{AtMost, row_of, used_of, Counted}
 
-pub used_some : (v : ℕ) → (v ≡ 0 → ⊥) → (1 ≡ positive v) × (1 < 2)
-used_some v ne = (sym (positive_of v (omega arith)), omega arith)
+-- a number of the part of a list that begins at a
+pub row_get : (l : List ℕ) (a k i : ℕ) → i < length (take k (drop a l)) → get_or (take k (drop a l)) i 0 ≡ get_or l (a + i) 0
+row_get l a k i h = get_or-take k (drop a l) i 0 (omega (arith, length-take k (drop a l))) ∙ get_or-drop a l i 0
+
+-- whether units are used, as a number
+one_if : (v : ℕ) → bool_byte (not (eqb v 0)) ≡ positive v
+one_if zero = refl
+one_if (suc v) = rw (ne_eqb (suc v) 0 (omega arith))
+
+pub used_as_number : {r v u : ℕ} → r ≡ bool_byte (not (eqb v 0)) → v ≡ u → r ≡ positive u
+used_as_number e g = e ∙ one_if _ ∙ ap positive g
+
+pub used_below : {r : ℕ} (b : Bool) → r ≡ bool_byte b → r ≤ 1
+used_below false e = omega arith
+used_below true e = omega arith
 
 -- a test that said yes or no
-pub says_yes : {P : Type 0} → P → Tells P true
+says_yes : {P : Type 0} → P → Tells P true
 says_yes p = record { yes = λ e. p; no = λ e. absurd (true≢false e) }
 
-pub says_no : {P : Type 0} → (P → ⊥) → Tells P false
+says_no : {P : Type 0} → (P → ⊥) → Tells P false
 says_no n = record { yes = λ e. absurd (false≢true e); no = λ e. n }
-
-pub told_yes : {P : Type 0} {r : Bool} → Tells P r → not r ≡ false → P
-told_yes {r = r} h e = h.yes (not-false r e)
-
-pub told_no : {P : Type 0} {r : Bool} → Tells P r → not r ≡ true → P → ⊥
-told_no {r = r} h e = h.no (not-true r e)
-
--- a comparison decides what it is a part of, where the rest is known
-told_le : {P : Type 0} (a b : ℕ) → (a ≤ b → P) → (P → a ≤ b) → Tells P (leb a b)
-told_le a b f g =
-    elim (dec_le a b) [
-      | yes h ↦ rw (le-leb a b h) (says_yes (f h))
-      | no n ↦ rw (lt-leb a b (omega arith)) (says_no (λ p. n (g p)))
-    ]
-
-pub cores_told : (F n m : ℕ) → 1 ≤ F → F ≤ max_frame → n ≤ max_tasks → 1 ≤ m → Tells (Sized F n m) (leb m max_cores)
-cores_told F n m a b c d =
-    told_le m max_cores (λ h. record { frame_some = a; frame_most = b; tasks_most = c; cores_some = d; cores_most = h }) (λ s. s.cores_most)
 
 -- one value after another is held against F
 module _ (F : ℕ) (f : ℕ → ℕ) where
-  pub most_none : AtMost F 0 f
+  most_none : AtMost F 0 f
   most_none i l = absurd (omega arith)
 
-  pub most_more : (i v most : ℕ) → AtMost F i f → most ≡ F → v ≡ f i → v ≤ most → AtMost F (i + 1) f
+  most_more : (i v most : ℕ) → AtMost F i f → most ≡ F → v ≡ f i → v ≤ most → AtMost F (i + 1) f
   most_more i v most h e d l k b =
       elim (ℕ_discrete k i) [
         | yes s ↦ omega (arith, ap f s)
         | no ne ↦ h k (omega arith)
       ]
-
-  pub most_above : (i c v most : ℕ) → i < c → most ≡ F → v ≡ f i → most < v → AtMost F c f → ⊥
-  most_above i c v most l e d b h = omega (arith, h i l)
-
-  pub most_done : (i c : ℕ) → i ≤ c → c ≤ i → AtMost F i f → AtMost F c f
-  most_done i c a b h k l = h k (omega arith)
 
 -- the rows, task by task, with their used cells
 module _ (F m : ℕ) (x : ℕ → ℕ → ℕ) where
@@ -69,30 +63,36 @@ module _ (F m : ℕ) (x : ℕ → ℕ → ℕ) where
   counted_more t u most s k h e d g l b =
       record { rows = most_more F (row_of m x) t s most h.rows e d b; used = sum_more (used_of m x) u t k h.used g; few = omega (arith, h.few) }
 
-  pub counted_done : (t n u : ℕ) → t ≤ n → n ≤ t → Counted F t m x u → Counted F n m x u
-  counted_done t n u a b h =
-      record { rows = most_done F (row_of m x) t n a b h.rows; used = sum_done (used_of m x) u t n h.used a b; few = omega (arith, h.few) }
+-- a test at each number of a range
+pub all_told : (F : ℕ) (f : ℕ → ℕ) (n a : ℕ) → Tells ((i : ℕ) → a ≤ i → i < a + n → f i ≤ F) (list_all (λ j. leb (f j) F) (range_with_len a n))
+all_told F f zero a = says_yes (λ i l h. absurd (omega arith))
+all_told F f (suc n) a =
+    elim (dec_le (f a) F) [
+      | yes h ↦ rw (le-leb (f a) F h) (rest h (all_told F f n (a + 1)))
+      | no g ↦ rw (lt-leb (f a) F (omega arith)) (says_no (λ p. g (p a (omega arith) (omega arith))))
+    ]
+  where
+    next : f a ≤ F → ((i : ℕ) → a + 1 ≤ i → i < a + 1 + n → f i ≤ F) → (i : ℕ) → a ≤ i → i < a + suc n → f i ≤ F
+    next h p i l k =
+        elim (ℕ_discrete i a) [
+          | yes e ↦ rw e h
+          | no ne ↦ p i (omega arith) (omega arith)
+        ]
 
-  pub counted_above : (t n most s : ℕ) → t < n → most ≡ F → s ≡ row_of m x t → most < s → AtMost F n (row_of m x) → ⊥
-  counted_above t n most s l e d b = most_above F (row_of m x) t n s most l e d b
+    rest : {r : Bool} → f a ≤ F → Tells ((i : ℕ) → a + 1 ≤ i → i < a + 1 + n → f i ≤ F) r → Tells ((i : ℕ) → a ≤ i → i < a + suc n → f i ≤ F) r
+    rest h t = record { yes = λ e. next h (t.yes e); no = λ e p. t.no e (λ i l k. p i (omega arith) (omega arith)) }
 
--- the parts together
-module _ (F n m : ℕ) (x : ℕ → ℕ → ℕ) (room : ℕ) where
-  pub fits_sized : Fits F n m x room → Sized F n m
-  fits_sized f = record { frame_some = f.frame_some; frame_most = f.frame_most; tasks_most = f.tasks_most; cores_some = f.cores_some; cores_most = f.cores_most }
+pub columns_told : (F : ℕ) (f : ℕ → ℕ) (n : ℕ) {r : Bool} → r ≡ list_all (λ j. leb (f j) F) (range_with_len 0 n) → Tells (AtMost F n f) r
+columns_told F f n e =
+    rw e (let t = all_told F f n 0 in record { yes = λ y i l. t.yes y i (omega arith) (omega arith); no = λ y p. t.no y (λ i a l. p i (omega arith)) })
 
-  pub fits_told : (u : ℕ) → Sized F n m → AtMost F m (column_of n x) → Counted F n m x u → Tells (Fits F n m x room) (leb (u + m) room)
-  fits_told u s c h = told_le (u + m) room all (λ f. omega (arith, h.used, f.room_for))
-    where
-      all : u + m ≤ room → Fits F n m x room
-      all l =
-          record {
-            frame_some = s.frame_some;
-            frame_most = s.frame_most;
-            tasks_most = s.tasks_most;
-            cores_some = s.cores_some;
-            cores_most = s.cores_most;
-            rows = h.rows;
-            cols = c;
-            room_for = omega (arith, h.used);
-          }
+-- the sum over a range
+sum_from : (f : ℕ → ℕ) (n a v : ℕ) → v ≡ sum_to a f → fold (λ s i. s + f i) v (range_with_len a n) ≡ sum_to (a + n) f
+sum_from f zero a v e = rw add-zero e
+sum_from f (suc n) a v e = sum_from f n (a + 1) (v + f a) (sum_more f v a (f a) e refl) ∙ ap (λ (k : ℕ). sum_to k f) (moved a)
+  where
+    moved : (a : ℕ) → a + 1 + n ≡ a + suc n
+    moved a = omega arith
+
+pub sum_by_range : (f : ℕ → ℕ) (n : ℕ) → sum_by f (range_with_len 0 n) ≡ sum_to n f
+sum_by_range f n = sum_from f n 0 0 (sum_none f) ∙ ap (λ (k : ℕ). sum_to k f) (zero-add n)

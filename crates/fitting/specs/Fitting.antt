@@ -1,19 +1,9 @@
 -- What the tests answer, each for a part of `Fits`.
 -- These make the proofs easy and need no belief.
 -- Assumes nothing.
-use Rattle.std.specs.Prelude.{◌≡◌, ℕ, ◌*◌, ◌≤◌, ◌<◌}
-use Rattle.rules.specs.Sizes.{max_frame, max_tasks, max_cores}
+use Rattle.std.specs.Prelude.{◌≡◌, ℕ, ◌*◌, ◌≤◌, ◌<◌, Option, Some, None}
+use Rattle.rules.specs.Sizes.{max_cores}
 use Rattle.rules.specs.Sum.{sum_to, positive}
-use Rattle.fitting.specs.declared.Rows.{Rows}
-use Rattle.fitting.specs.declared.Rows.TheVariants.{Used, Above}
-
--- sizes as document 01 has them
-pub record Sized (F n m : ℕ) : Type 0 where
-  pub frame_some : 1 ≤ F
-  pub frame_most : F ≤ max_frame
-  pub tasks_most : n ≤ max_tasks
-  pub cores_some : 1 ≤ m
-  pub cores_most : m ≤ max_cores
 
 -- no value of f below c is above F
 abbrev pub AtMost : ℕ → ℕ → (ℕ → ℕ) → Type 0
@@ -36,7 +26,7 @@ pub record Counted (F n m : ℕ) (x : ℕ → ℕ → ℕ) (u : ℕ) : Type 0 wh
   pub used : u ≡ sum_to n (used_of m x)
   pub few : u ≤ n * max_cores
 
--- what the rows hold, by cases
-abbrev pub RowsAnswer : ℕ → ℕ → ℕ → (ℕ → ℕ → ℕ) → Rows → Type 0
-RowsAnswer F n m x (Used u) = Counted F n m x u
-RowsAnswer F n m x Above = AtMost F n (row_of m x) → ⊥
+-- what the rows hold: the number of used cells, or a row above the frame
+abbrev pub RowsAnswer : ℕ → ℕ → ℕ → (ℕ → ℕ → ℕ) → Option ℕ → Type 0
+RowsAnswer F n m x (Some u) = Counted F n m x u
+RowsAnswer F n m x None = AtMost F n (row_of m x) → ⊥

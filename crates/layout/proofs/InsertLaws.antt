@@ -6,8 +6,9 @@ use Prim.Native.Nat.{ℕ, suc, ◌+◌, ◌-◌, ◌*◌, ◌≤◌, ◌<◌}
 use native.Mathlib.Nat.{le_refl}
 use native.Mathlib.Decide.{ℕ_discrete}
 use native.Mathlib.Omega.{arith}
-use lib.ListN.{length, get_or, take, drop, set, length-append}
-use lib.Seq.{slice, sets-eq, take-append-le, take-take, take_at, drop_at, drop-drop, get_or-append-add, drop-append-add, length-take-le}
+use lib.ListN.{length, get_or, take, drop, length-append}
+use borrow.Rule.Slice.PartMut.{put_mid, Post-is}
+use lib.Seq.{slice, take-append-le, take-take, take_at, drop_at, drop-drop, get_or-append-add, drop-append-add, length-take-le}
 use Rattle.rules.specs.Piece.{Piece, numbers_of}
 use Rattle.rules.specs.Moves.{insert}
 use Rattle.rules.specs.Table.{cut, insert_all}
@@ -21,30 +22,17 @@ use Rattle.stretches.proofs.Cuts.{cut_fits, cut_crosses}
 abbrev placed_in : List ℕ → ℕ → ℕ → Piece → List ℕ
 placed_in l r c p = take (4 * r) l ++ (numbers_of (p ∷ []) ++ (slice (4 * r) (4 * c) l ++ drop (4 * c + 4) l))
 
-four_stores : (t : List ℕ) (i a b c d : ℕ) → i + 4 ≤ length t → set (set (set (set t i a) (i + 1) b) (i + 2) c) (i + 3) d ≡ take i t ++ (a ∷ b ∷ c ∷ d ∷ drop (i + 4) t)
-four_stores t i a b c d h =
-    rw (one i, two i, three i) (sets-eq (a ∷ b ∷ c ∷ d ∷ []) t i h ∙ append_assoc (take i t) (a ∷ b ∷ c ∷ d ∷ []) (drop (i + 4) t))
-  where
-    one : (i : ℕ) → i + 1 ≡ suc i
-    one i = omega arith
+-- a piece in the place of four numbers
+pub piece_written : (l : List ℕ) (i : ℕ) (p : Piece) (ys : List ℕ) → ys ≡ numbers_of (p ∷ []) → put_mid i (i + 4 - i) l ys ≡ take i l ++ (numbers_of (p ∷ []) ++ drop (i + 4) l)
+piece_written l i p ys e = ap₂ (λ (s t : List ℕ). take i l ++ (s ++ t)) e (Post-is i (i + 4) l (omega arith))
 
-    two : (i : ℕ) → i + 2 ≡ suc (suc i)
-    two i = omega arith
-
-    three : (i : ℕ) → i + 3 ≡ suc (suc (suc i))
-    three i = omega arith
-
-gap_written : (l : List ℕ) (i c a b d e : ℕ) → i ≤ c → c + 4 ≤ length l
-    → set (set (set (set (gap l i c) i a) (i + 1) b) (i + 2) d) (i + 3) e ≡ take i l ++ (a ∷ b ∷ d ∷ e ∷ (slice i c l ++ drop (c + 4) l))
+gap_written : (l : List ℕ) (i c : ℕ) (p : Piece) → i ≤ c → c + 4 ≤ length l
+    → take i (gap l i c) ++ (numbers_of (p ∷ []) ++ drop (i + 4) (gap l i c)) ≡ take i l ++ (numbers_of (p ∷ []) ++ (slice i c l ++ drop (c + 4) l))
 unfolding gap
-gap_written l i c a b d e h k =
-    four_stores (gap l i c) i a b d e (long (omega (arith, length-take-le (i + 4) l (omega arith), length-append (take (i + 4) l) (slice i c l ++ drop (c + 4) l))))
-    ∙ ap₂ (λ (s t : List ℕ). s ++ (a ∷ b ∷ d ∷ e ∷ t))
+gap_written l i c p h k =
+    ap₂ (λ (s t : List ℕ). s ++ (numbers_of (p ∷ []) ++ t))
     (take-append-le i (take (i + 4) l) (slice i c l ++ drop (c + 4) l) (omega (arith, length-take-le (i + 4) l (omega arith))) ∙ take-take i (i + 4) l (omega arith))
     (drop_at (take (i + 4) l) (slice i c l ++ drop (c + 4) l) (i + 4) (length-take-le (i + 4) l (omega arith)))
-  where
-    long : i + 4 ≤ length (take (i + 4) l ++ (slice i c l ++ drop (c + 4) l)) → i + 4 ≤ length (gap l i c)
-    long h = h
 
 module _ (rest : List ℕ) (p : Piece) where
   put_here : (a b : List Piece) → placed_in (numbers_of a ++ (numbers_of b ++ rest)) (length a) (length a + length b) p ≡ numbers_of a ++ (numbers_of (p ∷ b) ++ drop 4 rest)
@@ -122,15 +110,13 @@ module _ (rest : List ℕ) (p : Piece) where
             here = λ u. h.here (omega (arith, one_more));
           }
 
-pub insert_done : (l t u : List ℕ) (from count core task start len r : ℕ) → Room (count + 1) (length l) → Placed l from count start r → t ≡ gap l (4 * r) (4 * count)
-    → u ≡ set (set (set (set t (4 * r) core) (4 * r + 1) task) (4 * r + 2) start) (4 * r + 3) len
-    → Inserts from count (record { core = core; task = task; start = start; len = len } ∷ []) l u
+pub insert_done : (l t u : List ℕ) (from count : ℕ) (p : Piece) (r : ℕ) → Room (count + 1) (length l) → Placed l from count p.start r → t ≡ gap l (4 * r) (4 * count)
+    → u ≡ take (4 * r) t ++ (numbers_of (p ∷ []) ++ drop (4 * r + 4) t) → Inserts from count (p ∷ []) l u
 unfolding insert_all
-insert_done l t u from count core task start len r room h e f a b rest la lb d =
-    f ∙ ap (λ (t : List ℕ). set (set (set (set t (4 * r) core) (4 * r + 1) task) (4 * r + 2) start) (4 * r + 3) len) e
-    ∙ gap_written l (4 * r) (4 * count) core task start len (omega (arith, h.high)) (omega (arith, room.room_for))
-    ∙ ap (λ (k : ℕ). placed_in l r k (record { core = core; task = task; start = start; len = len })) (sym lb)
-    ∙ put_in rest (record { core = core; task = task; start = start; len = len }) b a r l d (record { low = omega (arith, h.low); high = omega (arith, h.high); before = λ k u v. h.before k (omega arith) v; here = λ u. h.here (omega arith) })
+insert_done l t u from count p r room h e f a b rest la lb d =
+    f ∙ ap (λ (t : List ℕ). take (4 * r) t ++ (numbers_of (p ∷ []) ++ drop (4 * r + 4) t)) e ∙ gap_written l (4 * r) (4 * count) p (omega (arith, h.high)) (omega (arith, room.room_for))
+    ∙ ap (λ (k : ℕ). placed_in l r k p) (sym lb)
+    ∙ put_in rest p b a r l d (record { low = omega (arith, h.low); high = omega (arith, h.high); before = λ k u v. h.before k (omega arith) v; here = λ u. h.here (omega arith) })
 
 -- the room for the pieces of a stretch
 pub room_one : (F core task s len count n : ℕ) → s + len ≤ F → Room (count + length (cut F core task s len)) n → Room (count + 1) n

@@ -1,51 +1,54 @@
 -- Laws for `lay_task`, `lay_core` and `lay_cores` of `laying`: the pieces of a core, task by task, and of all cores.
 -- Assumes nothing.
-use mathlib.Core.Path.{◌≡◌, refl, sym, ◌∙◌, ap, ap₂, subst}
+use mathlib.Core.Path.{◌≡◌, refl, sym, ◌∙◌, ap, ap₂}
 use mathlib.Core.List.{List, ◌++◌, append_assoc}
 use Prim.Native.Nat.{ℕ, zero, suc, ◌+◌, ◌*◌, ◌%◌, ◌≤◌, ◌<◌}
-use native.Mathlib.Nat.{le_refl, le_trans, le_antisymm, mod-lt}
+use native.Mathlib.Nat.{le_refl, le_trans, mod-lt}
 use native.Mathlib.Numerals.{add-one}
 use native.Mathlib.Omega.{arith}
-use lib.ListN.{length, get_or, drop, length-append}
+use lib.ListN.{length, drop, length-append}
 use lib.Seq.{drop-drop}
 use Rattle.rules.specs.Sizes.{max_frame}
 use Rattle.rules.specs.Sum.{positive}
 use Rattle.rules.specs.Piece.{Piece, numbers_of}
-use Rattle.rules.specs.Layout.{Walk, ahead, stretch}
+use Rattle.rules.specs.Layout.{ahead, stretch}
 use Rattle.rules.specs.Table.{cut, insert_all, pieces_on, core_to, cores_to}
 use Rattle.sums.proofs.Sum.{sum_term, sum_mono}
 use Rattle.stretches.specs.Cell.{cell}
-use Rattle.layout.specs.Pieces.{Room, alone, task_pieces, core_pieces, core_of, starts_of, cores_pieces, Inserts, Appends, OnCore, OnCores}
+use Rattle.layout.specs.Pieces.{Room, alone, task_pieces, core_pieces, core_of, cores_pieces, Inserts, Appends, OnCore, OnCores}
+use Rattle.layout.specs.Ahead.{number_of}
+use Rattle.layout.specs.Walking.{walk_of}
 use Rattle.layout.specs.declared.laying.Core.{Core}
+use Rattle.layout.specs.declared.walking.Walked.{Walked}
 use Rattle.stretches.proofs.Cuts.{pieces_none, pieces_some}
 use Rattle.stretches.proofs.Lengths.{length_insert_all, length_core, crosses, part_at_most}
 use Rattle.stretches.proofs.Numbers.{numbers_append}
 
-module _ (F n : ℕ) (units : List ℕ) (on : Core) (g : OnCore F n units on) where
+module _ (F n m : ℕ) (units : List ℕ) (on : Core) (g : OnCore F n m units on) where
   pub task_none : (count task : ℕ) (l : List ℕ) → cell units task on.core ≡ 0
       → (count ≡ count + length (task_pieces F n units on task)) × Inserts on.from count (task_pieces F n units on task) l l
   unfolding insert_all
   task_none count task l e =
-      rw (pieces_none F n n (cell units) (alone on.at on.first) on.core task e) (omega arith, λ a b rest la lb d. d)
+      rw (pieces_none F n n (cell units) (alone on.begin.at (number_of on.begin.first)) on.core task e) (omega arith, λ a b rest la lb d. d)
 
-  stretch_alone : (task a : ℕ) → a ≡ ahead on.first (λ i. cell units i on.core) task → stretch n n (cell units) (alone on.at on.first) task on.core ≡ on.at + a
+  stretch_alone : (task a : ℕ) → a ≡ ahead (number_of on.begin.first) (λ i. cell units i on.core) task → stretch n n (cell units) (alone on.begin.at (number_of on.begin.first)) task on.core ≡ on.begin.at + a
   unfolding stretch
-  stretch_alone task a e = ap (λ (k : ℕ). on.at + k) (sym e)
+  stretch_alone task a e = ap (λ (k : ℕ). on.begin.at + k) (sym e)
 
-  task_is : (task a : ℕ) → (cell units task on.core ≡ 0 → ⊥) → a ≡ ahead on.first (λ i. cell units i on.core) task
-      → task_pieces F n units on task ≡ cut F on.core task ((on.at + a) % F) (cell units task on.core)
-  task_is task a ne e = pieces_some F n n (cell units) (alone on.at on.first) on.core task (omega arith) ∙ ap (λ (s : ℕ). cut F on.core task (s % F) (cell units task on.core)) (stretch_alone task a e)
+  task_is : (task a : ℕ) → (cell units task on.core ≡ 0 → ⊥) → a ≡ ahead (number_of on.begin.first) (λ i. cell units i on.core) task
+      → task_pieces F n units on task ≡ cut F on.core task ((on.begin.at + a) % F) (cell units task on.core)
+  task_is task a ne e = pieces_some F n n (cell units) (alone on.begin.at (number_of on.begin.first)) on.core task (omega arith) ∙ ap (λ (s : ℕ). cut F on.core task (s % F) (cell units task on.core)) (stretch_alone task a e)
 
-  pub task_some : (count task a r : ℕ) (l u : List ℕ) → (cell units task on.core ≡ 0 → ⊥) → a ≡ ahead on.first (λ i. cell units i on.core) task
-      → (r ≡ count + length (cut F on.core task ((on.at + a) % F) (cell units task on.core))) × Inserts on.from count (cut F on.core task ((on.at + a) % F) (cell units task on.core)) l u
+  pub task_some : (count task a r : ℕ) (l u : List ℕ) → (cell units task on.core ≡ 0 → ⊥) → a ≡ ahead (number_of on.begin.first) (λ i. cell units i on.core) task
+      → (r ≡ count + length (cut F on.core task ((on.begin.at + a) % F) (cell units task on.core))) × Inserts on.from count (cut F on.core task ((on.begin.at + a) % F) (cell units task on.core)) l u
       → (r ≡ count + length (task_pieces F n units on task)) × Inserts on.from count (task_pieces F n units on task) l u
   task_some count task a r l u ne e h = rw (task_is task a ne e) h
 
-  pub stretch_asked : (count task a room : ℕ) → task < n → on.from ≤ count → (cell units task on.core ≡ 0 → ⊥) → a ≡ ahead on.first (λ i. cell units i on.core) task
+  pub stretch_asked : (count task a room : ℕ) → task < n → on.from ≤ count → (cell units task on.core ≡ 0 → ⊥) → a ≡ ahead (number_of on.begin.first) (λ i. cell units i on.core) task
       → Room (count + length (task_pieces F n units on task)) room
-      → (on.from ≤ count) × ((on.at + a) % F < F) × (F ≤ max_frame) × (cell units task on.core ≤ F) × Room (count + length (cut F on.core task ((on.at + a) % F) (cell units task on.core))) room
+      → (on.from ≤ count) × ((on.begin.at + a) % F < F) × (F ≤ max_frame) × (cell units task on.core ≤ F) × Room (count + length (cut F on.core task ((on.begin.at + a) % F) (cell units task on.core))) room
   stretch_asked count task a room l h ne e r =
-      (h, mod-lt (on.at + a) g.frame_some, g.frame_most, le_trans (sum_term n task (λ i. cell units i on.core) l) g.column, rw (sym (task_is task a ne e)) r)
+      (h, mod-lt (on.begin.at + a) g.frame_some, g.frame_most, le_trans (sum_term n task (λ i. cell units i on.core) l) g.column, rw (sym (task_is task a ne e)) r)
 
 module _ (F n : ℕ) (units : List ℕ) (on : Core) where
   -- the tasks below t are laid
@@ -70,10 +73,10 @@ module _ (F n : ℕ) (units : List ℕ) (on : Core) where
   length_up t c l =
       omega (
         arith,
-        length_core F n n (cell units) (alone on.at on.first) on.core t,
-        length_core F n n (cell units) (alone on.at on.first) on.core c,
+        length_core F n n (cell units) (alone on.begin.at (number_of on.begin.first)) on.core t,
+        length_core F n n (cell units) (alone on.begin.at (number_of on.begin.first)) on.core c,
         sum_mono t c (λ i. positive (cell units i on.core)) l,
-        sum_mono t c (crosses F n n (cell units) (alone on.at on.first) on.core) l,
+        sum_mono t c (crosses F n n (cell units) (alone on.begin.at (number_of on.begin.first)) on.core) l,
       )
 
   pub laid_more : (l u v : List ℕ) (t count r : ℕ) → LaidTo l t count u
@@ -92,14 +95,9 @@ module _ (F n : ℕ) (units : List ℕ) (on : Core) where
         long = e ∙ h.long;
       }
 
-  pub laid_done : (l u : List ℕ) (t count : ℕ) → t ≤ n → n ≤ t → LaidTo l t count u
-      → (count ≡ on.from + length (core_pieces F n units on n)) × Appends on.from (core_pieces F n units on n) l u
-  laid_done l u t count a b h =
-      subst (λ (i : ℕ). (count ≡ on.from + length (core_pieces F n units on i)) × Appends on.from (core_pieces F n units on i) l u) (le_antisymm a b) (h.counted, h.laid)
-
-  pub laid_asks : (l u : List ℕ) (t count : ℕ) → OnCore F n units on → Room (on.from + length (core_pieces F n units on n)) (length l) → t < n → LaidTo l t count u
-      → OnCore F n units on × (t < n) × (on.from ≤ count) × Room (count + length (task_pieces F n units on t)) (length u)
-  laid_asks l u t count g room s h = (
+  pub laid_asks : (m : ℕ) (l u : List ℕ) (t count : ℕ) → OnCore F n m units on → Room (on.from + length (core_pieces F n units on n)) (length l) → t < n → LaidTo l t count u
+      → OnCore F n m units on × (t < n) × (on.from ≤ count) × Room (count + length (task_pieces F n units on t)) (length u)
+  laid_asks m l u t count g room s h = (
     g,
     s,
     omega (arith, h.counted),
@@ -107,38 +105,30 @@ module _ (F n : ℕ) (units : List ℕ) (on : Core) where
   )
 
 -- of a walk only the core's start and first task count
-pub core_alone : (F n m : ℕ) (units : List ℕ) (w : Walk) (j c : ℕ) → core_to F n m (cell units) w j c ≡ core_pieces F n units (record { core = j; at = w.start j; first = w.first j; from = 0 }) c
+core_alone : (F n m : ℕ) (units : List ℕ) (s : Walked) (j from c : ℕ) → core_to F n m (cell units) (walk_of s) j c ≡ core_pieces F n units (core_of s j from) c
 unfolding core_to pieces_on stretch
-core_alone F n m units w j zero = refl
-core_alone F n m units w j (suc c) = ap (insert_all (pieces_on F n m (cell units) w j c)) (core_alone F n m units w j c)
+core_alone F n m units s j from zero = refl
+core_alone F n m units s j from (suc c) = ap (insert_all (pieces_on F n m (cell units) (walk_of s) j c)) (core_alone F n m units s j from c)
 
-pub cores_starts : (F n m : ℕ) (units start first : List ℕ) (w : Walk) → ((k : ℕ) → w.start k ≡ get_or start k 0) → ((k : ℕ) → w.first k ≡ get_or first k 0) → (c : ℕ)
-    → cores_to F n m (cell units) w c ≡ cores_pieces F n m units start first c
-unfolding cores_to
-cores_starts F n m units start first w e d zero = refl
-cores_starts F n m units start first w e d (suc c) =
-    ap₂ ◌++◌ (cores_starts F n m units start first w e d c)
-    (core_alone F n m units w c n ∙ ap₂ (λ (a b : ℕ). core_pieces F n units (record { core = c; at = a; first = b; from = 0 }) n) (e c) (d c) ∙ sym (core_alone F n m units (starts_of start first) c n))
-
-module _ (F n m : ℕ) (units start first : List ℕ) where
+module _ (F n m : ℕ) (units : List ℕ) (s : Walked) where
   -- the cores below j are laid
   pub record CoresTo (before : List ℕ) (j count : ℕ) (after : List ℕ) : Type 0 where
-    pub counted : count ≡ length (cores_pieces F n m units start first j)
-    pub laid : after ≡ numbers_of (cores_pieces F n m units start first j) ++ drop (4 * count) before
+    pub counted : count ≡ length (cores_pieces F n m units s j)
+    pub laid : after ≡ numbers_of (cores_pieces F n m units s j) ++ drop (4 * count) before
     pub long : length after ≡ length before
 
   pub cores_begin : (l : List ℕ) → CoresTo l 0 0 l
   unfolding cores_to
   cores_begin l = record { counted = refl; laid = refl; long = refl }
 
-  cores_length_next : (j count : ℕ) → length (cores_pieces F n m units start first (suc j)) ≡ length (cores_pieces F n m units start first j) + length (core_pieces F n units (core_of start first j count) n)
+  cores_length_next : (j count : ℕ) → length (cores_pieces F n m units s (suc j)) ≡ length (cores_pieces F n m units s j) + length (core_pieces F n units (core_of s j count) n)
   unfolding cores_to
   cores_length_next j count =
-      length-append (cores_pieces F n m units start first j) (core_to F n m (cell units) (starts_of start first) j n)
-      ∙ ap (λ (l : List Piece). length (cores_pieces F n m units start first j) + length l) (core_alone F n m units (starts_of start first) j n)
+      length-append (cores_pieces F n m units s j) (core_to F n m (cell units) (walk_of s) j n)
+      ∙ ap (λ (l : List Piece). length (cores_pieces F n m units s j) + length l) (core_alone F n m units s j count n)
 
   pub cores_more : (l u v : List ℕ) (j count r : ℕ) → CoresTo l j count u
-      → (r ≡ count + length (core_pieces F n units (core_of start first j count) n)) × Appends count (core_pieces F n units (core_of start first j count) n) u v → length v ≡ length u
+      → (r ≡ count + length (core_pieces F n units (core_of s j count) n)) × Appends count (core_pieces F n units (core_of s j count) n) u v → length v ≡ length u
       → CoresTo l (j + 1) r v
   unfolding cores_to
   cores_more l u v j count r h k e =
@@ -146,32 +136,27 @@ module _ (F n m : ℕ) (units start first : List ℕ) where
         counted = rw (add-one j) (k.0 ∙ omega (arith, h.counted, cores_length_next j count));
         laid =
             rw (add-one j)
-            (k.1 (cores_pieces F n m units start first j) (drop (4 * count) l) (sym h.counted) h.laid
-            ∙ sym (append_assoc (numbers_of (cores_pieces F n m units start first j)) (numbers_of (core_pieces F n units (core_of start first j count) n)) _)
+            (k.1 (cores_pieces F n m units s j) (drop (4 * count) l) (sym h.counted) h.laid
+            ∙ sym (append_assoc (numbers_of (cores_pieces F n m units s j)) (numbers_of (core_pieces F n units (core_of s j count) n)) _)
             ∙ ap₂ ◌++◌
-            (sym (numbers_append (cores_pieces F n m units start first j) (core_pieces F n units (core_of start first j count) n))
-            ∙ ap (λ (s : List Piece). numbers_of (cores_pieces F n m units start first j ++ s)) (sym (core_alone F n m units (starts_of start first) j n)))
-            (drop-drop (4 * length (core_pieces F n units (core_of start first j count) n)) (4 * count) l ∙ ap (λ (i : ℕ). drop i l) four));
+            (sym (numbers_append (cores_pieces F n m units s j) (core_pieces F n units (core_of s j count) n))
+            ∙ ap (λ (ps : List Piece). numbers_of (cores_pieces F n m units s j ++ ps)) (sym (core_alone F n m units s j count n)))
+            (drop-drop (4 * length (core_pieces F n units (core_of s j count) n)) (4 * count) l ∙ ap (λ (i : ℕ). drop i l) four));
         long = e ∙ h.long;
       }
     where
-      four : 4 * count + 4 * length (core_pieces F n units (core_of start first j count) n) ≡ 4 * r
+      four : 4 * count + 4 * length (core_pieces F n units (core_of s j count) n) ≡ 4 * r
       four = omega (arith, k.0)
 
-  pub cores_done : (l u : List ℕ) (j count : ℕ) → j ≤ m → m ≤ j → CoresTo l j count u
-      → (count ≡ length (cores_pieces F n m units start first m)) × (u ≡ numbers_of (cores_pieces F n m units start first m) ++ drop (4 * count) l)
-  cores_done l u j count a b h =
-      subst (λ (i : ℕ). (count ≡ length (cores_pieces F n m units start first i)) × (u ≡ numbers_of (cores_pieces F n m units start first i) ++ drop (4 * count) l)) (le_antisymm a b) (h.counted, h.laid)
-
-  pub cores_asks : (l u : List ℕ) (j count : ℕ) → OnCores F n m units start first (length l) → j < m → CoresTo l j count u
-      → OnCore F n units (core_of start first j count)
-      × Room (count + length (core_pieces F n units (core_of start first j count) n)) (length u)
+  pub cores_asks : (l u : List ℕ) (j count : ℕ) → OnCores F n m units s (length l) → j < m → CoresTo l j count u
+      → OnCore F n m units (core_of s j count)
+      × Room (count + length (core_pieces F n units (core_of s j count) n)) (length u)
   cores_asks l u j count g jm h = (
-    record { frame_some = g.frame_some; frame_most = g.frame_most; tasks = g.tasks; core_few = omega (arith, g.cores); start_few = g.starts j; first_few = g.firsts j; column = g.columns j jm },
+    record { frame_some = g.frame_some; frame_most = g.frame_most; core_few = jm; start_few = g.starts j; first_few = g.firsts j; column = g.columns j jm },
     record { few = omega (arith, h.counted, up, g.room.few); room_for = omega (arith, h.counted, h.long, up, g.room.room_for) },
   )
     where
-      up : length (cores_pieces F n m units start first j) + length (core_pieces F n units (core_of start first j count) n) ≤ length (cores_pieces F n m units start first m)
+      up : length (cores_pieces F n m units s j) + length (core_pieces F n units (core_of s j count) n) ≤ length (cores_pieces F n m units s m)
       up =
-          rw (sym (core_alone F n m units (starts_of start first) j n))
-          (part_at_most F n m (cell units) (starts_of start first) g.frame_some g.columns g.firsts j jm n (le_refl _))
+          rw (sym (core_alone F n m units s j count n))
+          (part_at_most F n m (cell units) (walk_of s) g.frame_some g.columns g.firsts j jm n (le_refl _))

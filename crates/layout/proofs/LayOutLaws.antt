@@ -1,6 +1,6 @@
 -- Laws for `lay_all` of `laying`: the walk and the pieces of all cores make the table of the units, and the lent list has room for it.
 -- Assumes nothing.
-use mathlib.Core.Path.{◌≡◌, refl, sym, ◌∙◌, ap, subst}
+use mathlib.Core.Path.{◌≡◌, sym, ◌∙◌, ap, subst}
 use mathlib.Core.List.{List, ◌++◌}
 use Prim.Native.Nat.{ℕ, ◌+◌, ◌*◌, ◌/◌, ◌≤◌, ◌<◌}
 use native.Mathlib.Nat.{le_refl, le_trans}
@@ -21,8 +21,7 @@ use Rattle.stretches.proofs.Agree.{layout_agree, cores_agree}
 use Rattle.fitting.specs.Fits.{Fits}
 use Rattle.layout.specs.Walking.{walk_of, latest_start, Kept}
 use Rattle.layout.specs.Pieces.{most_pieces, cores_pieces, OnCores}
-use Rattle.layout.specs.declared.walking.Marks.{Marks}
-use Rattle.layout.proofs.LayLaws.{cores_starts}
+use Rattle.layout.specs.declared.walking.Walked.{Walked}
 
 pub fits_small : {F n m : ℕ} {x : ℕ → ℕ → ℕ} {room : ℕ} → Fits F n m x room → Small n m x
 fits_small r =
@@ -62,23 +61,19 @@ module _ (F n m : ℕ) (x : ℕ → ℕ → ℕ) (room : ℕ) (r : Fits F n m x 
       omega (arith, cores_length F n m x (layout n m x) r.frame_some r.cols bounded_layout.firsts m (le_refl _), sum_swap n m (λ t j. positive (x t j)))
 
 module _ (F n m : ℕ) (units : List ℕ) (long : ℕ) (r : Fits F n m (cell units) (long / 4)) where
-  module _ (s : Marks) (start first : List ℕ) (k : Kept (layout n m (cell units)) s start first) where
-    pieces_are : cores_pieces F n m units start first m ≡ cores_to F n m (cell units) (layout n m (cell units)) m
-    pieces_are =
-        sym (cores_starts F n m units start first (walk_of s start first) (λ i. refl) (λ i. refl) m)
-        ∙ ap (λ (w : Walk). cores_to F n m (cell units) w m) k.same
+  module _ (s : Walked) (k : Kept (layout n m (cell units)) s) where
+    pieces_are : cores_pieces F n m units s m ≡ cores_to F n m (cell units) (layout n m (cell units)) m
+    pieces_are = ap (λ (w : Walk). cores_to F n m (cell units) w m) k.same
 
-    bounded : Bounded n (latest_start max_cores) (walk_of s start first)
+    bounded : Bounded n (latest_start max_cores) (walk_of s)
     bounded = rw k.same (bounded_layout F n m (cell units) (long / 4) r)
 
-    pub out_asks : OnCores F n m units start first long
+    pub out_asks : OnCores F n m units s long
     unfolding used
     out_asks =
         record {
           frame_some = r.frame_some;
           frame_most = r.frame_most;
-          tasks = r.tasks_most;
-          cores = r.cores_most;
           starts = bounded.starts;
           firsts = bounded.firsts;
           columns = r.cols;
@@ -91,7 +86,7 @@ module _ (F n m : ℕ) (units : List ℕ) (long : ℕ) (r : Fits F n m (cell uni
         }
 
     pub out_done : (c : ℕ) (l u : List ℕ)
-        → (c ≡ length (cores_pieces F n m units start first m)) × (u ≡ numbers_of (cores_pieces F n m units start first m) ++ drop (4 * c) l)
+        → (c ≡ length (cores_pieces F n m units s m)) × (u ≡ numbers_of (cores_pieces F n m units s m) ++ drop (4 * c) l)
         → (c ≡ length (table_of F n m (cell units))) × (u ≡ numbers_of (table_of F n m (cell units)) ++ drop (4 * c) l)
     out_done c l u h =
         subst (λ (t : List Piece). (c ≡ length t) × (u ≡ numbers_of t ++ drop (4 * c) l)) (pieces_are ∙ table_from F n m (cell units) (long / 4) r) h

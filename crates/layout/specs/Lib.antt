@@ -1,3 +1,4 @@
+pub mod Ahead
 pub mod Laid
 pub mod Pieces
 pub mod Walking

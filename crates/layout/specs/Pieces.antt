@@ -9,9 +9,11 @@ use Rattle.rules.specs.Sum.{sum_to}
 use Rattle.rules.specs.Table.{cut, insert_all, pieces_on, core_to, cores_to}
 use Rattle.rules.specs.Layout.{Walk}
 use Rattle.stretches.specs.Cell.{cell}
-use Rattle.layout.specs.Walking.{latest_start}
+use Rattle.layout.specs.Ahead.{number_of}
+use Rattle.layout.specs.Walking.{root, walk_of, latest_start}
 use Rattle.layout.specs.declared.pieces.Part.{Part}
 use Rattle.layout.specs.declared.laying.Core.{Core}
+use Rattle.layout.specs.declared.walking.Walked.{Walked}
 
 -- no units make more pieces: one for each task on each core, and one more a core
 abbrev pub most_pieces : ℕ
@@ -53,10 +55,10 @@ alone start first =
 
 -- the pieces of a task, and of the tasks below c, on a core
 abbrev pub task_pieces : ℕ → ℕ → List ℕ → Core → ℕ → List Piece
-task_pieces F n units on t = pieces_on F n n (cell units) (alone on.at on.first) on.core t
+task_pieces F n units on t = pieces_on F n n (cell units) (alone on.begin.at (number_of on.begin.first)) on.core t
 
 abbrev pub core_pieces : ℕ → ℕ → List ℕ → Core → ℕ → List Piece
-core_pieces F n units on c = core_to F n n (cell units) (alone on.at on.first) on.core c
+core_pieces F n units on c = core_to F n n (cell units) (alone on.begin.at (number_of on.begin.first)) on.core c
 
 -- the pieces ps follow the first `from` pieces; what lay behind these is written over
 abbrev pub Appends : ℕ → List Piece → List ℕ → List ℕ → Type 0
@@ -64,35 +66,27 @@ Appends from ps before after =
     (a : List Piece) (rest : List ℕ) → length a ≡ from → before ≡ numbers_of a ++ rest → after ≡ numbers_of a ++ (numbers_of ps ++ drop (4 * length ps) rest)
 
 -- before the pieces of a core are laid
-pub record OnCore (F n : ℕ) (units : List ℕ) (on : Core) : Type 0 where
+pub record OnCore (F n m : ℕ) (units : List ℕ) (on : Core) : Type 0 where
   pub frame_some : 1 ≤ F
   pub frame_most : F ≤ max_frame
-  pub tasks : n ≤ max_tasks
-  pub core_few : on.core < max_cores
-  pub start_few : on.at ≤ latest_start max_cores
-  pub first_few : on.first ≤ n
+  pub core_few : on.core < m
+  pub start_few : on.begin.at ≤ latest_start max_cores
+  pub first_few : number_of on.begin.first ≤ n
   pub column : sum_to n (λ i. cell units i on.core) ≤ F
 
--- core j as the starts and the first tasks have it, with `from` pieces before its own
-abbrev pub core_of : List ℕ → List ℕ → ℕ → ℕ → Core
-core_of start first j from = record { core = j; at = get_or start j 0; first = get_or first j 0; from = from }
-
--- a walk of which only the starts and the first tasks are kept
-abbrev pub starts_of : List ℕ → List ℕ → Walk
-starts_of start first =
-    record { visited = λ j. 0; reached = λ j. 0; met = λ t. 0; start = λ j. get_or start j 0; first = λ j. get_or first j 0 }
+-- core j as the walk has it, with `from` pieces before its own
+abbrev pub core_of : Walked → ℕ → ℕ → Core
+core_of s j from = record { core = j; begin = get_or s.begins j root; from = from }
 
 -- the pieces of the cores below c
-abbrev pub cores_pieces : ℕ → ℕ → ℕ → List ℕ → List ℕ → List ℕ → ℕ → List Piece
-cores_pieces F n m units start first c = cores_to F n m (cell units) (starts_of start first) c
+abbrev pub cores_pieces : ℕ → ℕ → ℕ → List ℕ → Walked → ℕ → List Piece
+cores_pieces F n m units s c = cores_to F n m (cell units) (walk_of s) c
 
 -- before the pieces of all cores are laid
-pub record OnCores (F n m : ℕ) (units start first : List ℕ) (long : ℕ) : Type 0 where
+pub record OnCores (F n m : ℕ) (units : List ℕ) (s : Walked) (long : ℕ) : Type 0 where
   pub frame_some : 1 ≤ F
   pub frame_most : F ≤ max_frame
-  pub tasks : n ≤ max_tasks
-  pub cores : m ≤ max_cores
-  pub starts : (k : ℕ) → get_or start k 0 ≤ latest_start max_cores
-  pub firsts : (k : ℕ) → get_or first k 0 ≤ n
+  pub starts : (k : ℕ) → (get_or s.begins k root).at ≤ latest_start max_cores
+  pub firsts : (k : ℕ) → number_of (get_or s.begins k root).first ≤ n
   pub columns : (j : ℕ) → j < m → sum_to n (λ i. cell units i j) ≤ F
-  pub room : Room (length (cores_pieces F n m units start first m)) long
+  pub room : Room (length (cores_pieces F n m units s m)) long

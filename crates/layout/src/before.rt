@@ -1,80 +1,59 @@
 // What runs before a task on a core, and before a core of a task: document 01, "From allocation to table". One is first, the rest ascend.
-// The units stand in a flat list, sixteen numbers a task.
-ghost use Rattle.std.specs.Prelude.{◌≡◌, cond, suc, ◌≤◌, ◌<◌, eqb};
-ghost use Rattle.rules.specs.Sizes.{max_frame, max_tasks, max_cores};
+ghost use Rattle.std.specs.Prelude.{◌≡◌, ℕ, Some, suc, ◌≤◌, ◌<◌};
+ghost use Rattle.rules.specs.Sizes.{max_frame};
 ghost use Rattle.rules.specs.Sum.{sum_to, put};
 ghost use Rattle.rules.specs.Layout.{ahead};
 ghost use Rattle.stretches.specs.Cell.{cell};
+ghost use Rattle.layout.specs.Ahead.{Gives, Line, Whole, number_of};
 
-// A term of a sum that leaves one out.
-fn unless(value: u32, i: usize, skip: usize) -> u32
-    ensures { result ≡ cond (eqb i skip) 0 value }
-{
-    if i == skip { 0 } else { value }
-}
+use grid::Grid;
 
-// The units on a core of the tasks below `tasks`, without the task `skip`.
-fn column(units: &[u32; 1024], core: usize, skip: usize, tasks: usize) -> u32
-    requires { (core < max_cores) × (tasks ≤ max_tasks) × (sum_to tasks (λ i. cell units.now i core) ≤ max_frame) }
-    ensures { result ≡ sum_to tasks (put skip 0 (λ i. cell units.now i core)) }
+// The units before the i-th, without those of `skip`.
+fn sum_before<F: Fn(usize) -> u32 + Copy>(unit: F, skip: usize, i: usize) -> u32
+    requires { Line (λ k. F.pre unit k) (λ k r. F.post unit k r) i }
+    ensures { (f : ℕ → ℕ) → Gives (λ k r. F.post unit k r) f → result ≡ sum_to i (put skip 0 f) }
 {
-    let mut sum: u32 = 0;
-    let mut i = 0;
-    while i < tasks {
-        sum += unless(units[i * 16 + core], i, skip);
-        i += 1;
+    let mut sum = 0;
+    for k in 0..i {
+        if k != skip {
+            sum += unit(k);
+        }
     }
     sum
 }
 
-// The units of a task on the cores below `cores`, without the core `skip`.
-fn row(units: &[u32; 1024], task: usize, skip: usize, cores: usize) -> u32
-    requires { (task < max_tasks) × (cores ≤ max_cores) × (sum_to cores (cell units.now task) ≤ max_frame) }
-    ensures { result ≡ sum_to cores (put skip 0 (cell units.now task)) }
+// What runs before the i-th of a row or a column, whose k-th units are `unit(k)`, if `first` runs first and the rest ascend.
+fn ahead<F: Fn(usize) -> u32 + Copy>(unit: F, first: Option<usize>, i: usize) -> u32
+    requires { Whole (λ k. F.pre unit k) (λ k r. F.post unit k r) (number_of first) i }
+    ensures value { (f : ℕ → ℕ) → Gives (λ k r. F.post unit k r) f → result ≡ ahead (number_of first) f i }
+    ensures small { result ≤ max_frame }
 {
-    let mut sum: u32 = 0;
-    let mut i = 0;
-    while i < cores {
-        sum += unless(units[task * 16 + i], i, skip);
-        i += 1;
+    match first {
+        None => sum_before(unit, i, i),
+        Some(k) if k == i => 0,
+        Some(k) => unit(k) + sum_before(unit, k, i),
     }
-    sum
 }
 
-// What runs before a task on a core that was reached through task `first` - 1, or is a root if `first` is 0.
-pub(crate) fn ahead_on_core(
-    units: &[u32; 1024],
-    tasks: usize,
-    core: usize,
-    first: usize,
-    task: usize,
-) -> u32
-    requires { (core < max_cores) × (tasks ≤ max_tasks) × (task < tasks) × (first ≤ tasks) × (sum_to tasks (λ i. cell units.now i core) ≤ max_frame) }
-    ensures { (result ≡ ahead first (λ i. cell units.now i core) task) × (result ≤ max_frame) }
+// A task and a core are asked to be the grid's where they are used as places: a type for each would be unpacked there.
+// What runs before a task on a core that was reached through the task `first`, or that is a root.
+pub(crate) fn ahead_on_core(grid: Grid, core: usize, first: Option<usize>, task: usize) -> u32
+    requires { (core < grid.cores) ×
+        (task < grid.tasks) ×
+        (number_of first ≤ grid.tasks) ×
+        (sum_to grid.tasks (λ i. cell grid.units.now i core) ≤ max_frame) }
+    ensures { (result ≡ ahead (number_of first) (λ i. cell grid.entry.units.now i core) task) × (result ≤ max_frame) }
 {
-    if first == 0 {
-        return column(units, core, task, task);
-    }
-    let other = first - 1;
-    if task == other {
-        return 0;
-    }
-    units[other * 16 + core] + column(units, core, other, task)
+    ahead(|i| grid.units[i * 16 + core], first, task)
 }
 
 // What a task runs before it runs on a core, if it was met on the core `met`.
-pub(crate) fn ahead_of_task(
-    units: &[u32; 1024],
-    cores: usize,
-    task: usize,
-    met: usize,
-    core: usize,
-) -> u32
-    requires { (task < max_tasks) × (cores ≤ max_cores) × (core < cores) × (met < cores) × (sum_to cores (cell units.now task) ≤ max_frame) }
-    ensures { (result ≡ ahead (suc met) (cell units.now task) core) × (result ≤ max_frame) }
+pub(crate) fn ahead_of_task(grid: Grid, task: usize, met: usize, core: usize) -> u32
+    requires { (task < grid.tasks) ×
+        (core < grid.cores) ×
+        (met < grid.cores) ×
+        (sum_to grid.cores (cell grid.units.now task) ≤ max_frame) }
+    ensures { (result ≡ ahead (suc met) (cell grid.entry.units.now task) core) × (result ≤ max_frame) }
 {
-    if core == met {
-        return 0;
-    }
-    units[task * 16 + met] + row(units, task, met, core)
+    ahead(|j| grid.units[task * 16 + j], Some(met), core)
 }

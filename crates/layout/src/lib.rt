@@ -9,29 +9,23 @@ mod walking;
 ghost use Rattle.layout.specs.Laid.{LayAnswer};
 
 use fitting::units_fit;
+use grid::Grid;
 use laying::lay_all;
 
-// The number of pieces that now stand at the front of the table; or the units do not fit, and the table keeps what it held.
-#[derive(Clone, Copy)]
-pub enum Laid {
-    Pieces(usize),
-    Unfit,
-}
-
-// The units stand in a flat list, sixteen numbers a task, and the table has four numbers a piece. What lies beyond the pieces keeps what it
-// held.
+// The units stand in a flat list, sixteen numbers a task, and the table has four numbers a piece. The number of pieces that now stand at the
+// front of the table, and what lies beyond keeps what it held; or None where the units do not fit, and the table keeps what it held.
 pub fn lay_out(
     frame: u32,
     tasks: usize,
     cores: usize,
     units: &[u32; 1024],
     table: &mut [u32],
-) -> Laid
+) -> Option<usize>
     ensures { LayAnswer frame tasks cores units.now table.old result table.new }
 {
+    let grid = Grid::new(units, tasks, cores)?;
     if !units_fit(frame, tasks, cores, units, table.len() / 4) {
-        return Laid::Unfit;
+        return None;
     }
-    let pieces = lay_all(frame, tasks, cores, units, table);
-    Laid::Pieces(pieces)
+    Some(lay_all(frame, grid, table))
 }

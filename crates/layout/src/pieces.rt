@@ -1,10 +1,14 @@
 // Pieces in the lent table, four numbers each: core, task, start, length. A piece is put in by its start.
-ghost use Rattle.std.specs.Prelude.{◌≡◌, [], ◌∷◌, ◌+◌, ◌*◌, ◌≤◌, ◌<◌, length, set};
+// `from` and `count` stay two numbers beside the table: the table has pieces of other cores too, and each piece moves the count, so that a
+// struct would be no plainer.
+ghost use Rattle.std.specs.Prelude.{◌≡◌, [], ◌∷◌, ◌+◌, ◌*◌, ◌≤◌, ◌<◌, ◌++◌, length, take, drop};
+ghost use Rattle.rules.specs.Piece.{numbers_of};
 ghost use Rattle.rules.specs.Sizes.{max_frame};
 ghost use Rattle.layout.specs.Pieces.{most_pieces, Room, Placed, gap, Inserts, piece_of, cut_of};
 
-// A piece, or a stretch that may cross the end of the frame.
-#[derive(Drop)]
+// A piece, or a stretch that may cross the end of the frame. The table check's `Stretch` has the same four numbers; its methods must stand
+// in the crate that declares it, and layout would rest on that crate for the fields alone.
+#[derive(Clone, Copy)]
 pub(crate) struct Part {
     pub core: u32,
     pub task: u32,
@@ -17,14 +21,9 @@ fn place_of(table: &[u32], from: usize, count: usize, start: u32) -> usize
     requires { (from ≤ count) × Room count (length table.now) }
     ensures { Placed table.now from count start result }
 {
-    let mut k = from;
-    while k < count {
-        if start < table[4 * k + 2] {
-            return k;
-        }
-        k += 1;
-    }
-    k
+    (from..count)
+        .find(|k| start < table[4 * *k + 2])
+        .unwrap_or(count)
 }
 
 // The numbers from the place `from` up to `to` move on by four places.
@@ -32,23 +31,16 @@ fn open_gap(table: &mut [u32], from: usize, to: usize)
     requires { (from ≤ to) × (to + 4 ≤ 4 * most_pieces) × (to + 4 ≤ length table.old) }
     ensures { table.new ≡ gap table.old from to }
 {
-    let mut i = to;
-    while from < i {
-        i -= 1;
-        table[i + 4] = table[i];
-    }
+    table.copy_within(from..to, from + 4);
 }
 
 // A piece, number by number in the order of document 01, from the place `i` on.
 fn write_piece(table: &mut [u32], i: usize, part: Part)
     requires { (i + 4 ≤ 4 * most_pieces) × (i + 4 ≤ length table.old) }
-    ensures { table.new ≡
-        set (set (set (set table.old i part.core) (i + 1) part.task) (i + 2) part.start) (i + 3) part.len }
+    ensures { table.new ≡ take i table.old ++ (numbers_of (piece_of part ∷ []) ++ drop (i + 4) table.old) }
 {
-    table[i] = part.core;
-    table[i + 1] = part.task;
-    table[i + 2] = part.start;
-    table[i + 3] = part.len;
+    let numbers = [part.core, part.task, part.start, part.len];
+    table[i..i + 4].copy_from_slice(&numbers);
 }
 
 // A piece is put in by its start among the pieces of its core, which are those from `from` up to `count`.
@@ -82,19 +74,14 @@ pub(crate) fn add_stretch(
         insert_piece(table, from, count, part);
         return count + 1;
     }
-    let within = frame - part.start;
-    let over = end - frame;
     let last = Part {
-        core: part.core,
-        task: part.task,
-        start: part.start,
-        len: within,
+        len: frame - part.start,
+        ..part
     };
     let wrapped = Part {
-        core: part.core,
-        task: part.task,
         start: 0,
-        len: over,
+        len: end - frame,
+        ..part
     };
     insert_piece(table, from, count, last);
     insert_piece(table, from, count + 1, wrapped);

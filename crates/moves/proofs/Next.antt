@@ -1,67 +1,40 @@
--- The search for the next piece, as the loop runs it, and what it finds.
+-- The search for the next piece, as the loop runs it.
 -- Assumes nothing.
-use mathlib.Core.Path.{◌≡◌, ◌∙◌, ap}
-use mathlib.Core.Bool.{Bool, true, false}
+use mathlib.Core.Path.{◌≡◌}
+use mathlib.Core.Bool.{true, false}
 use mathlib.Core.List.{List}
-use Prim.Native.Nat.{ℕ, ◌+◌, ◌*◌, ◌/◌, ◌≤◌, ◌<◌}
-use native.Mathlib.Nat.{le_antisymm}
+use Prim.Native.Nat.{ℕ, ◌+◌, ◌≤◌, ◌<◌}
 use native.Mathlib.Numerals.{add-one}
 use lib.Dec.{ltb}
-use lib.ListN.{length, get_or}
 use borrow.Author.Tests.{le-leb, lt-leb, eq-eqb, ne_eqb}
-use Rattle.rules.specs.Piece.{Piece, piece_at}
-use Rattle.moves.specs.Next.{sooner_of, sooner, next_to, next_piece}
+use Rattle.std.specs.Prelude.{Option, None, Some}
+use Rattle.rules.specs.Piece.{piece_at}
+use Rattle.moves.specs.Next.{sooner, next_to}
 
-module _ (task from : ℕ) (p : Piece) where
-  other_task : (n : Bool) (b : Piece) → (p.task ≡ task → ⊥) → false ≡ sooner_of task from n p b
-  unfolding sooner_of
-  other_task n b h = rw (ne_eqb _ _ h)
-
-  too_early : (n : Bool) (b : Piece) → p.task ≡ task → p.start < from → false ≡ sooner_of task from n p b
-  unfolding sooner_of
-  too_early n b e h = rw (eq-eqb _ _ e, lt-leb _ _ h)
-
-  the_first : (b : Piece) → p.task ≡ task → from ≤ p.start → true ≡ sooner_of task from true p b
-  unfolding sooner_of
-  the_first b e h = rw (eq-eqb _ _ e, le-leb _ _ h)
-
-  by_start : (q : Piece) → p.task ≡ task → from ≤ p.start → ltb p.start q.start ≡ sooner_of task from false p q
-  unfolding sooner_of
-  by_start q e h = rw (eq-eqb _ _ e, le-leb _ _ h)
-
--- the numbers of piece k as they stand in the lent list
-module _ (l : List ℕ) (task from best k : ℕ) where
-  pub sooner_task : (get_or l (4 * k + 1) 0 ≡ task → ⊥) → false ≡ sooner l task from best k
+module _ (l : List ℕ) (task from : ℕ) (best : Option ℕ) (k : ℕ) where
+  pub sooner_task : ((piece_at l k).task ≡ task → ⊥) → sooner l task from best k ≡ false
   unfolding sooner
-  sooner_task h = other_task task from (piece_at l k) _ _ h
+  sooner_task h = rw (ne_eqb _ _ h)
 
-  module _ (own : get_or l (4 * k + 1) 0 ≡ task) where
-    pub sooner_early : get_or l (4 * k + 2) 0 < from → false ≡ sooner l task from best k
+  module _ (own : (piece_at l k).task ≡ task) where
+    pub sooner_early : (piece_at l k).start < from → sooner l task from best k ≡ false
     unfolding sooner
-    sooner_early h = too_early task from (piece_at l k) _ _ own h
+    sooner_early h = rw (eq-eqb _ _ own, lt-leb _ _ h)
 
-    module _ (late : from ≤ get_or l (4 * k + 2) 0) where
-      pub sooner_first : length l / 4 ≤ best → true ≡ sooner l task from best k
+    module _ (late : from ≤ (piece_at l k).start) where
+      pub sooner_first : best ≡ None → sooner l task from best k ≡ true
       unfolding sooner
-      sooner_first b = rw (le-leb _ _ b) (the_first task from (piece_at l k) _ own late)
+      sooner_first e = rw (eq-eqb _ _ own, le-leb _ _ late, e)
 
-      pub sooner_start : (t : Bool) → best < length l / 4 → t ≡ ltb (get_or l (4 * k + 2) 0) (get_or l (4 * best + 2) 0) → t ≡ sooner l task from best k
+      pub sooner_start : (b : ℕ) → best ≡ Some b → sooner l task from best k ≡ ltb (piece_at l k).start (piece_at l b).start
       unfolding sooner
-      sooner_start t b f = f ∙ rw (lt-leb _ _ b) (by_start task from (piece_at l k) (piece_at l best) own late)
+      sooner_start b e = rw (eq-eqb _ _ own, le-leb _ _ late, e)
 
-module _ (l : List ℕ) (task from : ℕ) where
-  pub next_none : (n : ℕ) → n ≡ length l / 4 → n ≡ next_to l task from 0
-  unfolding next_to
-  next_none n e = e
+  module _ (so_far : best ≡ next_to l task from k) where
+    pub next_better : sooner l task from best k ≡ true → Some k ≡ next_to l task from (k + 1)
+    unfolding next_to
+    next_better y = rw (add-one k, ← so_far, y)
 
-  pub next_better : (best k new : ℕ) (t : Bool) → best ≡ next_to l task from k → t ≡ sooner l task from best k → t ≡ true → new ≡ k → new ≡ next_to l task from (k + 1)
-  unfolding next_to
-  next_better best k new t e s y d = d ∙ rw (add-one k, ← e, ← s, y)
-
-  pub next_same : (best k new : ℕ) (t : Bool) → best ≡ next_to l task from k → t ≡ sooner l task from best k → t ≡ false → new ≡ best → new ≡ next_to l task from (k + 1)
-  unfolding next_to
-  next_same best k new t e s y d = d ∙ rw (add-one k, ← e, ← s, y)
-
-  pub next_done : (best k : ℕ) → best ≡ next_to l task from k → k ≤ length l / 4 → length l / 4 ≤ k → best ≡ next_piece l task from
-  unfolding next_piece
-  next_done best k e a b = e ∙ ap (next_to l task from) (le_antisymm a b)
+    pub next_same : sooner l task from best k ≡ false → best ≡ next_to l task from (k + 1)
+    unfolding next_to
+    next_same y = rw (add-one k, ← so_far, y)

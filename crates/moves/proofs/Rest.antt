@@ -1,24 +1,30 @@
 -- The task's pieces from an instant on: the search for the next piece finds the first of them, and the rest follow its end.
 -- Assumes nothing.
 use mathlib.Core.Path.{◌≡◌, refl, sym, ◌∙◌, ap}
-use mathlib.Core.Bool.{true, false, cond}
+use mathlib.Core.Bool.{true, cond, true≢false}
 use mathlib.Core.List.{List, [], ◌∷◌}
 use mathlib.Core.Logic.{inl, inr, ⊎_elim}
-use Prim.Native.Nat.{ℕ, zero, suc, ◌+◌, ◌/◌, ◌≤◌, ◌<◌}
+use Prim.Native.Nat.{ℕ, zero, suc, ◌+◌, ◌≤◌, ◌<◌}
 use native.Mathlib.Nat.{not-suc-le-zero, le_refl}
 use native.Mathlib.Decide.{ℕ_discrete, dec_lt, dec_le}
 use native.Mathlib.Numerals.{add-one}
 use native.Mathlib.Omega.{arith}
 use lib.Dec.{leb}
-use lib.ListN.{length}
 use borrow.Author.Tests.{le-leb, lt-leb, lt-ltb, le-ltb}
 use Rattle.rules.specs.Piece.{Piece, piece_at, pieces_of, whole_pieces}
 use Rattle.rules.specs.FrameTable.{frame_table}
 use Rattle.rules.specs.Moves.{by_start}
 use Rattle.moves.specs.Next.{next_to, next_piece}
+use Rattle.std.specs.Prelude.{Option, None, Some, is_some, unwrap_or}
 use Rattle.moves.proofs.Next.{sooner_task, sooner_early, sooner_first, sooner_start, next_better, next_same}
 use Rattle.moves.proofs.Member.{In, in_by_start, by_start_in, in_first, first_in}
 use Rattle.moves.proofs.Order.{Chain, chain_start, chain_of_table}
+
+pub some_same : (a b : ℕ) → Some a ≡ Some b → a ≡ b
+some_same a b e = ap (λ (o : Option ℕ). unwrap_or o 0) e
+
+pub some_not_none : (a : ℕ) → Some a ≡ None → ⊥
+some_not_none a e = true≢false (ap is_some e)
 
 -- the pieces of the list that start at e or later
 unfoldable pub rest : ℕ → List Piece → List Piece
@@ -79,69 +85,86 @@ module _ (l : List ℕ) (task from : ℕ) where
   abbrev pub Fits : ℕ → Type 0
   Fits k = ((piece_at l k).task ≡ task) × (from ≤ (piece_at l k).start)
 
-  pub data Found (c : ℕ) (r : ℕ) : Type 0 where
-    nothing : r ≡ whole_pieces l → ((k : ℕ) → k < c → Fits k → ⊥) → Found c r
-    piece : r < c → Fits r → ((k : ℕ) → k < c → Fits k → (piece_at l r).start ≤ (piece_at l k).start) → Found c r
+  pub data Found (c : ℕ) (r : Option ℕ) : Type 0 where
+    nothing : r ≡ None → ((k : ℕ) → k < c → Fits k → ⊥) → Found c r
+    piece : (b : ℕ) → r ≡ Some b → b < c → Fits b → ((k : ℕ) → k < c → Fits k → (piece_at l b).start ≤ (piece_at l k).start) → Found c r
 
-  found_same : (c best r : ℕ) → Found c best → r ≡ best → (Fits c → (best < whole_pieces l) × ((piece_at l best).start ≤ (piece_at l c).start)) → Found (suc c) r
-  found_same c best r (nothing e f) d g =
-      nothing (d ∙ e) (λ k h i. elim (ℕ_discrete k c) [ yes x ↦ absurd (past (g (rw x at i)).0) | no x ↦ f k (omega arith) i ])
+  -- one piece more: it is the best then, or it does not fit, or it starts no sooner
+  found_new : (c : ℕ) (r : Option ℕ) → Some c ≡ r → Fits c → ((k : ℕ) → k < c → Fits k → (piece_at l c).start ≤ (piece_at l k).start) → Found (c + 1) r
+  found_new c r e i f =
+      piece c (sym e) (omega arith) i (λ k n j. elim (ℕ_discrete k c) [ yes x ↦ rw x (le_refl _) | no x ↦ f k (omega arith) j ])
+
+  found_unfit : (c : ℕ) (best r : Option ℕ) → Found c best → best ≡ r → (Fits c → ⊥) → Found (c + 1) r
+  found_unfit c best r (nothing e f) d g =
+      nothing (sym d ∙ e) (λ k h i. elim (ℕ_discrete k c) [ yes x ↦ g (rw x at i) | no x ↦ f k (omega arith) i ])
+  found_unfit c best r (piece b e h i f) d g =
+      piece b (sym d ∙ e) (omega arith) i
+      (λ k j n. elim (ℕ_discrete k c) [ yes x ↦ absurd (g (rw x at n)) | no x ↦ f k (omega arith) n ])
+
+  found_later : (c b : ℕ) (best r : Option ℕ) → best ≡ Some b → b < c → Fits b → ((k : ℕ) → k < c → Fits k → (piece_at l b).start ≤ (piece_at l k).start)
+      → best ≡ r → (piece_at l b).start ≤ (piece_at l c).start → Found (c + 1) r
+  found_later c b best r e h i f d g =
+      piece b (sym d ∙ e) (omega arith) i (λ k j n. elim (ℕ_discrete k c) [ yes x ↦ rw x g | no x ↦ f k (omega arith) n ])
+
+  found_more : (c : ℕ) (best : Option ℕ) → best ≡ next_to l task from c → Found c best → Found (c + 1) (next_to l task from (c + 1))
+  found_more c best e g =
+      elim (ℕ_discrete (piece_at l c).task task) [
+        | no t ↦ found_unfit c best _ g (next_same l task from best c e (sooner_task l task from best c t)) (λ i. t i.0)
+        | yes t ↦
+            elim (dec_le from (piece_at l c).start) [
+              | no n ↦ found_unfit c best _ g (next_same l task from best c e (sooner_early l task from best c t (omega arith))) (λ i. n i.1)
+              | yes n ↦ in_question g t n
+            ]
+      ]
     where
-      past : best < whole_pieces l → ⊥
-      past h = omega arith
-  found_same c best r (piece h i f) d g =
-      rw d
-      (piece (omega arith) i
-      (λ k j n. elim (ℕ_discrete k c) [ yes x ↦ rw x (g (rw x at n)).1 | no x ↦ f k (omega arith) n ]))
-
-  pub next_found : (c : ℕ) → c ≤ whole_pieces l → Found c (next_to l task from c)
-  unfolding next_to
-  next_found zero h = nothing refl (λ k n i. not-suc-le-zero n)
-  next_found (suc c) h = step (next_to l task from c) refl (next_found c (omega arith))
-    where
-      new : (r : ℕ) → r ≡ c → Fits c → ((k : ℕ) → k < c → Fits k → (piece_at l c).start ≤ (piece_at l k).start) → Found (suc c) r
-      new r e i f =
-          rw e
-          (piece (le_refl _) i
-          (λ k n j. elim (ℕ_discrete k c) [ yes x ↦ rw x (le_refl _) | no x ↦ f k (omega arith) j ]))
-
-      step : (best : ℕ) → best ≡ next_to l task from c → Found c best → Found (suc c) (next_to l task from (suc c))
-      step best e g =
-          elim (ℕ_discrete (piece_at l c).task task) [
-            | no t ↦
-                found_same c best _ g (sym (rw add-one at (next_same l task from best c best false e (sooner_task l task from best c t) refl refl)))
-                (λ i. absurd (t i.0))
-            | yes t ↦
-                elim (dec_le from (piece_at l c).start) [
-                  | no n ↦
-                      found_same c best _ g (sym (rw add-one at (next_same l task from best c best false e (sooner_early l task from best c t (omega arith)) refl refl)))
-                      (λ i. absurd (n i.1))
-                  | yes n ↦ in_question best e g t n
-                ]
+      in_question : Found c best → (piece_at l c).task ≡ task → from ≤ (piece_at l c).start → Found (c + 1) (next_to l task from (c + 1))
+      in_question (nothing d f) t n =
+          found_new c _ (next_better l task from best c e (sooner_first l task from best c t n d)) (t, n) (λ k h i. absurd (f k h i))
+      in_question (piece b d r i f) t n =
+          elim (dec_lt (piece_at l c).start (piece_at l b).start) [
+            | yes s ↦
+                found_new c _ (next_better l task from best c e (sooner_start l task from best c t n b d ∙ lt-ltb _ _ s)) (t, n)
+                (λ k h j. omega (arith, f k h j))
+            | no s ↦
+                found_later c b best _ d r i f
+                (next_same l task from best c e (sooner_start l task from best c t n b d ∙ le-ltb (piece_at l c).start (piece_at l b).start (omega arith)))
+                (omega arith)
           ]
-        where
-          in_question : (best : ℕ) → best ≡ next_to l task from c → Found c best → (piece_at l c).task ≡ task → from ≤ (piece_at l c).start → Found (suc c) (next_to l task from (suc c))
-          in_question best e (nothing d f) t n =
-              new _ (sym (rw add-one at (next_better l task from best c c true e (sooner_first l task from best c t n (omega arith)) refl refl))) (t, n)
-              (λ k h i. absurd (f k h i))
-          in_question best e (piece r i f) t n =
-              elim (dec_lt (piece_at l c).start (piece_at l best).start) [
-                | yes s ↦
-                    new _
-                    (sym (rw add-one at (next_better l task from best c c true e (sooner_start l task from best c t n true (omega arith) (sym (lt-ltb _ _ s))) refl refl))) (t, n)
-                    (λ k h j. omega (arith, f k h j))
-                | no s ↦
-                    found_same c best _ (piece r i f)
-                    (sym (rw add-one at (next_same l task from best c best false e (sooner_start l task from best c t n false (omega arith) (sym (le-ltb (piece_at l c).start (piece_at l best).start (omega arith)))) refl refl)))
-                    (λ j. (omega arith, omega arith))
-              ]
+
+  pub next_found : (c : ℕ) → Found c (next_to l task from c)
+  unfolding next_to
+  next_found zero = nothing refl (λ k n i. not-suc-le-zero n)
+  next_found (suc c) = rw add-one at (found_more c (next_to l task from c) refl (next_found c))
+
+  found : Found (whole_pieces l) (next_piece l task from)
+  unfolding next_piece
+  found = next_found (whole_pieces l)
+
+  -- what the search found is a piece of the table, and fits
+  module _ (k : ℕ) (is : Some k ≡ next_piece l task from) where
+    one_found : (k < whole_pieces l) × Fits k × ((j : ℕ) → j < whole_pieces l → Fits j → (piece_at l k).start ≤ (piece_at l j).start)
+    one_found = go found
+      where
+        go : Found (whole_pieces l) (next_piece l task from)
+            → (k < whole_pieces l) × Fits k × ((j : ℕ) → j < whole_pieces l → Fits j → (piece_at l k).start ≤ (piece_at l j).start)
+        go (nothing d f) = absurd (some_not_none k (is ∙ d))
+        go (piece b d n i f) = rw (some_same k b (is ∙ d)) (n, i, f)
+
+    pub next_inside : k < whole_pieces l
+    next_inside = one_found.0
+
+    pub next_from : ((piece_at l k).task ≡ task) × (from ≤ (piece_at l k).start)
+    next_from = one_found.1
+
+  none_found : None ≡ next_piece l task from → (k : ℕ) → k < whole_pieces l → Fits k → ⊥
+  none_found e = go found
+    where
+      go : Found (whole_pieces l) (next_piece l task from) → (k : ℕ) → k < whole_pieces l → Fits k → ⊥
+      go (nothing d f) = f
+      go (piece b d n i f) = absurd (some_not_none b (sym (e ∙ d)))
 
 -- the search over a frame table: the first of the rest, or none of it
 module _ (F m : ℕ) (l : List ℕ) (task from : ℕ) (table : frame_table F m l ≡ true) where
-  found : Found l task from (whole_pieces l) (next_piece l task from)
-  unfolding next_piece
-  found = next_found l task from (whole_pieces l) (le_refl _)
-
   own : (k : ℕ) → k < whole_pieces l → (piece_at l k).task ≡ task → In (piece_at l k) (by_start task (pieces_of l))
   own k h e = by_start_in task (piece_at l k) (pieces_of l) (first_in l (whole_pieces l) k h) e
 
@@ -151,51 +174,27 @@ module _ (F m : ℕ) (l : List ℕ) (task from : ℕ) (table : frame_table F m l
       named : In r (pieces_of l) × (r.task ≡ task) → (k : ℕ) × (k < whole_pieces l) × (r ≡ piece_at l k) → (k : ℕ) × (k < whole_pieces l) × (r ≡ piece_at l k) × ((piece_at l k).task ≡ task)
       named j n = (n.0, n.1, n.2, ap (λ (q : Piece). q.task) (sym n.2) ∙ j.1)
 
-  pub next_rest : (k : ℕ) → k ≡ next_piece l task from → k < length l / 4
-      → rest from (by_start task (pieces_of l)) ≡ piece_at l k ∷ rest ((piece_at l k).start + (piece_at l k).len) (by_start task (pieces_of l))
-  next_rest k e h = go (rw (← e) at found)
-    where
-      go : Found l task from (whole_pieces l) k → rest from (by_start task (pieces_of l)) ≡ piece_at l k ∷ rest ((piece_at l k).start + (piece_at l k).len) (by_start task (pieces_of l))
-      go (nothing d f) = absurd (same d h)
-        where
-          same : k ≡ whole_pieces l → k < whole_pieces l → ⊥
-          same d h = omega arith
-      go (piece n i f) =
-          rest_first from 0 (by_start task (pieces_of l)) (piece_at l k) (chain_of_table F m l task table) (own k n i.0) i.1
-          (λ r j g. least r (whose r j) g)
-        where
-          least : (r : Piece) → (k : ℕ) × (k < whole_pieces l) × (r ≡ piece_at l k) × ((piece_at l k).task ≡ task) → from ≤ r.start → (piece_at l k).start ≤ r.start
-          least r w g = omega (arith, f w.0 w.1 (w.3, begin (ap (λ (q : Piece). q.start) w.2) g), ap (λ (q : Piece). q.start) w.2)
-            where
-              begin : {a b : ℕ} → a ≡ b → from ≤ a → from ≤ b
-              begin p q = omega arith
+  begin : {a b : ℕ} → a ≡ b → from ≤ a → from ≤ b
+  begin p q = omega arith
 
-  pub next_last : (k : ℕ) → k ≡ next_piece l task from → length l / 4 ≤ k → rest from (by_start task (pieces_of l)) ≡ []
-  next_last k e h = go (rw (← e) at found)
+  pub next_rest : (k : ℕ) → Some k ≡ next_piece l task from
+      → rest from (by_start task (pieces_of l)) ≡ piece_at l k ∷ rest ((piece_at l k).start + (piece_at l k).len) (by_start task (pieces_of l))
+  next_rest k e =
+      rest_first from 0 (by_start task (pieces_of l)) (piece_at l k) (chain_of_table F m l task table) (own k one.0 one.1.0) one.1.1
+      (λ r j g. least r (whose r j) g)
     where
-      go : Found l task from (whole_pieces l) k → rest from (by_start task (pieces_of l)) ≡ []
-      go (piece n i f) = absurd (past n h)
-        where
-          past : k < whole_pieces l → whole_pieces l ≤ k → ⊥
-          past d h = omega arith
-      go (nothing d f) = rest_nothing from (by_start task (pieces_of l)) (λ r j g. none r (whose r j) g)
-        where
-          none : (r : Piece) → (k : ℕ) × (k < whole_pieces l) × (r ≡ piece_at l k) × ((piece_at l k).task ≡ task) → from ≤ r.start → ⊥
-          none r w g = f w.0 w.1 (w.3, begin (ap (λ (q : Piece). q.start) w.2) g)
-            where
-              begin : {a b : ℕ} → a ≡ b → from ≤ a → from ≤ b
-              begin p q = omega arith
+      one : (k < whole_pieces l) × Fits l task from k × ((j : ℕ) → j < whole_pieces l → Fits l task from j → (piece_at l k).start ≤ (piece_at l j).start)
+      one = one_found l task from k e
+
+      least : (r : Piece) → (k : ℕ) × (k < whole_pieces l) × (r ≡ piece_at l k) × ((piece_at l k).task ≡ task) → from ≤ r.start → (piece_at l k).start ≤ r.start
+      least r w g = omega (arith, one.2 w.0 w.1 (w.3, begin (ap (λ (q : Piece). q.start) w.2) g), ap (λ (q : Piece). q.start) w.2)
+
+  pub next_last : None ≡ next_piece l task from → rest from (by_start task (pieces_of l)) ≡ []
+  next_last e = rest_nothing from (by_start task (pieces_of l)) (λ r j g. none r (whose r j) g)
+    where
+      none : (r : Piece) → (k : ℕ) × (k < whole_pieces l) × (r ≡ piece_at l k) × ((piece_at l k).task ≡ task) → from ≤ r.start → ⊥
+      none r w g = none_found l task from e w.0 w.1 (w.3, begin (ap (λ (q : Piece). q.start) w.2) g)
 
   -- from the start of the frame on, all of them
   pub rest_whole : rest 0 (by_start task (pieces_of l)) ≡ by_start task (pieces_of l)
   rest_whole = rest_all 0 0 (by_start task (pieces_of l)) (chain_of_table F m l task table) (le_refl _)
-
-  pub next_from : (k : ℕ) → k ≡ next_piece l task from → k < length l / 4 → ((piece_at l k).task ≡ task) × (from ≤ (piece_at l k).start)
-  next_from k e h = go (rw (← e) at found)
-    where
-      go : Found l task from (whole_pieces l) k → ((piece_at l k).task ≡ task) × (from ≤ (piece_at l k).start)
-      go (nothing d f) = absurd (same d h)
-        where
-          same : k ≡ whole_pieces l → k < whole_pieces l → ⊥
-          same d h = omega arith
-      go (piece n i f) = i

@@ -2,77 +2,71 @@
 // The moves of a list are counted only once the table check has accepted it.
 #![tactic(auto)]
 
-ghost use Rattle.std.specs.Prelude.{◌≡◌, cond, ◌<◌, ◌≤◌, eqb};
+ghost use Rattle.std.specs.Prelude.{◌≡◌, ◌<◌, ◌≤◌, IfSome};
 ghost use Rattle.rules.specs.Piece.{pieces_of, whole_pieces};
 ghost use Rattle.rules.specs.Moves.{by_start, changes, moves};
 ghost use Rattle.rules.specs.Check.{moves_answer};
+ghost use Rattle.table.specs.Read.{stretch_at};
 ghost use Rattle.moves.specs.Next.{sooner, next_piece};
 ghost use Rattle.moves.specs.Framed.{Framed};
+ghost use Rattle.moves.specs.Moved.{moved};
 
 use rules::{Answer, Counted};
+use table::Stretch;
 
-// Piece k comes into question: the task's, at `from` or later, and sooner than the best so far.
-pub(crate) fn is_sooner(table: &[u32], task: u32, from: u32, best: usize, k: usize) -> bool
+pub(crate) fn piece_at(table: &[u32], k: usize) -> Stretch
     requires { k < whole_pieces table.now }
-    ensures { result ≡ sooner table.now task from best k }
+    ensures { result ≡ stretch_at table.now k }
 {
-    if table[4 * k + 1] != task {
-        return false;
-    }
-    let start = table[4 * k + 2];
-    if start < from {
-        return false;
-    }
-    if table.len() / 4 <= best {
-        return true;
-    }
-    start < table[4 * best + 2]
+    Stretch::get(table, k).unwrap()
 }
 
-// Of the task's pieces that start at `from` or later, the number of the one that starts first; the number of pieces where there is none.
-pub fn next_piece(table: &[u32], task: u32, from: u32) -> usize
+// Piece k comes into question: the task's, at `from` or later, and sooner than the best so far.
+#[tactic(auto, unfolding(crate::specs::Next::sooner))]
+pub(crate) fn is_sooner(table: &[u32], task: u32, from: u32, best: Option<usize>, k: usize) -> bool
+    requires piece { k < whole_pieces table.now }
+    requires best { IfSome best (λ b. b < whole_pieces table.now) }
+    ensures { result ≡ sooner table.now task from best k }
+{
+    let piece = piece_at(table, k);
+    piece.task == task
+        && from <= piece.start
+        && best.is_none_or(|b| piece.start < piece_at(table, b).start)
+}
+
+// Of the task's pieces that start at `from` or later, the number of the one that starts first.
+pub fn next_piece(table: &[u32], task: u32, from: u32) -> Option<usize>
     ensures { result ≡ next_piece table.now task from }
 {
-    let n = table.len() / 4;
-    let mut best = n;
-    let mut k: usize = 0;
-    while k < n {
+    let mut best = None;
+    for k in 0..table.len() / 4 {
         if is_sooner(table, task, from, best, k) {
-            best = k;
+            best = Some(k);
         }
-        k += 1;
     }
     best
 }
 
-// "a move is a piece whose core differs from the piece before it": 1 for a move, else 0.
-pub(crate) fn changed(core: u32, next: u32) -> usize
-    ensures { result ≡ cond (eqb core next) 0 1 }
+// "a move is a piece whose core differs from the piece before it"; the first piece has none before it.
+pub(crate) fn is_move(before: Option<u32>, core: u32) -> bool
+    ensures { result ≡ moved before core }
 {
-    if core == next { 0 } else { 1 }
+    before.is_some_and(|b| b != core)
 }
 
-// "for each task, list its pieces by start within the frame": its moves. The first piece is compared with itself.
+// "for each task, list its pieces by start within the frame": its moves.
 pub(crate) fn task_moves(table: &[u32], task: u32) -> usize
     requires { Framed table.now }
     ensures { (result ≡ changes (by_start task (pieces_of table.now))) × (result ≤ 95) }
 {
-    let n = table.len() / 4;
-    let mut from: u32 = 0;
-    let mut k = next_piece(table, task, from);
-    if n <= k {
-        return 0;
-    }
-    let mut core = table[4 * k];
     let mut count: usize = 0;
-    while k < n {
-        let next = table[4 * k];
-        let start = table[4 * k + 2];
-        let len = table[4 * k + 3];
-        count += changed(core, next);
-        core = next;
-        from = start + len;
-        k = next_piece(table, task, from);
+    let mut core = None;
+    let mut from: u32 = 0;
+    while let Some(k) = next_piece(table, task, from) {
+        let piece = piece_at(table, k);
+        count += usize::from(is_move(core, piece.core));
+        core = Some(piece.core);
+        from = piece.start + piece.len;
     }
     count
 }
@@ -82,28 +76,21 @@ pub(crate) fn table_moves(table: &[u32]) -> usize
     requires { Framed table.now }
     ensures { result ≡ moves (pieces_of table.now) }
 {
-    let mut total: usize = 0;
-    let mut task: u32 = 0;
-    while task < 64 {
-        total += task_moves(table, task);
-        task += 1;
-    }
-    total
+    (0..64).map(|task| task_moves(table, task)).sum()
 }
 
-// The moves of a frame table, and 0 beside a refusal. The number of the check's answer decides, so that a new answer changes nothing here.
+// The moves of a frame table, and 0 beside a refusal.
 pub fn count_moves(frame: u32, cores: u32, table: &[u32]) -> Counted
     ensures { result ≡ moves_answer frame cores table.now }
 {
-    let checked = table::check_table(frame, cores, table);
-    if rules::number(checked) != 0 {
-        return Counted {
-            answer: checked,
+    match table::check_table(frame, cores, table) {
+        Answer::Accepted => Counted {
+            answer: Answer::Accepted,
+            moves: table_moves(table),
+        },
+        refusal => Counted {
+            answer: refusal,
             moves: 0,
-        };
-    }
-    Counted {
-        answer: Answer::Accepted,
-        moves: table_moves(table),
+        },
     }
 }

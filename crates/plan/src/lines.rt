@@ -1,70 +1,76 @@
 // A chunk of the input taken line by line: each line's answer line is written into the output.
 // Of a line that is too long the first 3,073 bytes are kept: they are refused as the whole line is.
-ghost use Rattle.std.specs.Prelude.{◌+◌, ◌≤◌, ◌<◌, length};
+// What is kept of a line stays a buffer and a count, as `stream::take_line` takes them and `Fed` speaks of them.
+ghost use Rattle.std.specs.Prelude.{◌≤◌, ◌<◌, length};
 ghost use Rattle.rules.specs.LineCall.{LineAnswer};
-ghost use Rattle.stream.specs.Lines.{Answered, Fed, Took};
+ghost use Rattle.stream.specs.Lines.{AnsweredLine, Fed, Took};
 
-use stream::Stage;
-
-// "An output slice below 1,906 bytes is refused": so much is lent for an answer line, without its line feed.
-const ANSWER_ROOM: usize = 1906;
+use crate::{LINE_BYTES, OUTPUT_BYTES};
+use answerline::LEAST_OUTPUT;
+use stream::{Line, Stage};
 
 // An answer line with its line feed.
-const LINE_ROOM: usize = 1907;
+const LINE_ROOM: usize = LEAST_OUTPUT + 1;
 
-// The answer line of the line that is kept, and a line feed.
-fn answer(line: &[u8], len: usize, out: &mut [u8], used: usize) -> usize
-    requires { (len ≤ length line.now) × (3073 ≤ length line.now) × (used + 1907 ≤ length out.old) }
-    ensures { Answered LineAnswer 1907 line.now len out.old used out.new result }
+// The answer line of a line, and a line feed.
+fn answer(line: &[u8], out: &mut [u8]) -> usize
+    requires { 1907 ≤ length out.old }
+    ensures few { result ≤ 1907 }
+    ensures answered { AnsweredLine LineAnswer line.now out.old 0 out.new result }
 {
-    let end = used + ANSWER_ROOM;
-    let wrote = aurhennig::aurhennig_plan_line(&line[..len], &mut out[used..end]);
-    out[used + wrote] = 10;
-    used + wrote + 1
+    let wrote = aurhennig::aurhennig_plan_line(line, &mut out[..LEAST_OUTPUT]);
+    out[wrote] = b'\n';
+    wrote + 1
 }
 
-// The next line of a chunk, or what the chunk has of it. A whole line is answered.
-fn next(chunk: &[u8], at: usize, line: &mut [u8], len: usize, out: &mut [u8], used: usize) -> Stage
-    requires { (at < length chunk.now) × (3073 ≤ length line.old) × (len ≤ length line.old) × (used + 1907 ≤ length out.old) }
-    ensures { Took LineAnswer 1907 chunk.now at line.old len out.old used line.new out.new result }
+// The next line of a chunk that is not empty, or what the chunk has of it. A whole line is answered.
+fn next(chunk: &[u8], line: &mut [u8; LINE_BYTES], len: usize, out: &mut [u8]) -> Stage
+    requires { (0 < length chunk.now) × (len ≤ length line.old) × (1907 ≤ length out.old) }
+    ensures { Took LineAnswer 1907 chunk.now 0 line.old len out.old 0 line.new out.new result }
 {
-    let taken = stream::take_line(chunk, at, line, len);
-    let kept = taken.len;
-    if taken.whole {
-        let end = answer(line, kept, out, used);
-        return Stage {
+    let taken = stream::take_line(chunk, 0, line, len);
+    match taken.line {
+        Line::Whole(kept) => Stage {
             taken: taken.at,
             len: 0,
-            used: end,
-        };
-    }
-    Stage {
-        taken: taken.at,
-        len: kept,
-        used,
+            used: answer(&line[..kept], out),
+        },
+        Line::Begun(kept) => Stage {
+            taken: taken.at,
+            len: kept,
+            used: 0,
+        },
     }
 }
 
 // Takes the lines of a chunk until it ends or the output has no room for another.
-pub(crate) fn feed(chunk: &[u8], line: &mut [u8], len: usize, out: &mut [u8], used: usize) -> Stage
-    requires { (3073 ≤ length line.old) × (len ≤ length line.old) × (used + 1907 ≤ length out.old) }
-    ensures { Fed LineAnswer chunk.now line.old len out.old used line.new out.new result }
+// A `while`: its end is not known before, and no index is counted, since `next` says how far it went.
+pub(crate) fn feed(
+    chunk: &[u8],
+    line: &mut [u8; LINE_BYTES],
+    len: usize,
+    out: &mut [u8; OUTPUT_BYTES],
+) -> Stage
+    requires { len ≤ length line.old }
+    ensures { Fed LineAnswer chunk.now line.old len out.old 0 line.new out.new result }
 {
-    let mut at = 0;
-    let mut kept = len;
-    let mut filled = used;
-    while at < chunk.len() {
-        if out.len() - filled < LINE_ROOM {
-            break;
-        }
-        let stage = next(chunk, at, line, kept, out, filled);
-        at = stage.taken;
-        kept = stage.len;
-        filled = stage.used;
+    let mut stage = Stage {
+        taken: 0,
+        len,
+        used: 0,
+    };
+    while stage.taken < chunk.len() && LINE_ROOM <= out.len() - stage.used {
+        let step = next(
+            &chunk[stage.taken..],
+            line,
+            stage.len,
+            &mut out[stage.used..],
+        );
+        stage = Stage {
+            taken: stage.taken + step.taken,
+            len: step.len,
+            used: stage.used + step.used,
+        };
     }
-    Stage {
-        taken: at,
-        len: kept,
-        used: filled,
-    }
+    stage
 }

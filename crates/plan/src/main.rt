@@ -15,8 +15,11 @@ use stream::Source;
 // One byte more than the longest line that can be well written, 3,072 digits.
 const LINE_BYTES: usize = 3073;
 
+// What `io::large_buffer` hands out: room for many answer lines.
+const OUTPUT_BYTES: usize = 65536;
+
 // How the program ended: the input at its end, and how many bytes are kept of a line that got no answer.
-#[derive(Drop)]
+#[derive(Clone, Copy)]
 struct Ending {
     source: Source,
     len: usize,
@@ -25,27 +28,25 @@ struct Ending {
 // Every chunk of the input, to its end or until reading or writing fails.
 fn answer_all<R: Read, W: Write>(
     input: &mut [u8],
-    line: &mut [u8],
-    out: &mut [u8],
+    line: &mut [u8; LINE_BYTES],
+    out: &mut [u8; OUTPUT_BYTES],
     from: &mut R,
     to: &mut W,
 ) -> Ending
-    requires { (1 ≤ length input.old) × (3073 ≤ length line.old) × (1907 ≤ length out.old) }
+    requires { 1 ≤ length input.old }
     ensures ended { Ended result.source result.len }
     ensures kept { Kept LineAnswer line.old input.new result.source line.new result.len }
 {
-    let mut source = stream::start();
+    let mut source = Source::start();
     let mut len = 0;
     loop {
-        let chunk = stream::more(source, input, from);
-        let at = chunk.at;
-        let end = chunk.end;
-        if at == end {
+        let chunk = source.more(input, from);
+        if chunk.at == chunk.end {
             return Ending { source: chunk, len };
         }
-        let stage = feed(&input[at..end], line, len, out, 0);
+        let stage = feed(&input[chunk.at..chunk.end], line, len, out);
         len = stage.len;
-        source = stream::pass_on(chunk, stage.taken, out, stage.used, to);
+        source = chunk.pass_on(stage.taken, &out[..stage.used], to);
     }
 }
 
@@ -56,5 +57,5 @@ fn main(rt: HostRuntime) {
     let mut line = [0u8; LINE_BYTES];
     let mut output = io::large_buffer();
     let end = answer_all(&mut input, &mut line, &mut output, &mut from, &mut to);
-    stream::report(b"plan", end.source, &mut rt.stderr());
+    end.source.report(b"plan", &mut rt.stderr());
 }

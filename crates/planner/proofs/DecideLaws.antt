@@ -2,16 +2,14 @@
 -- Assumes nothing.
 use mathlib.Core.Path.{◌≡◌, refl, sym, ◌∙◌, ap, subst}
 use mathlib.Core.List.{List, ◌++◌}
-use Prim.Native.Nat.{ℕ, ◌*◌, ◌/◌, ◌≤◌, ◌<◌}
+use Prim.Native.Nat.{ℕ, ◌*◌, ◌/◌, ◌≤◌}
 use native.Mathlib.Omega.{arith}
-use lib.ListN.{length, drop, replicate, length-replicate}
-use Rattle.rules.specs.Sum.{sum_to}
+use lib.ListN.{length, drop}
 use Rattle.rules.specs.Piece.{numbers_of}
 use Rattle.rules.specs.Allocation.{limit_of, Allocation}
 use Rattle.rules.specs.Table.{table_of}
-use Rattle.rules.specs.Tests.{Tested, tested}
+use Rattle.rules.specs.Tests.{Tested, passed, tested}
 use Rattle.rules.specs.Plan.{at, Decided, planned, overloaded, PlanAnswer, PlanAnswerAt}
-use Rattle.rules.specs.declared.Answer.{Answer}
 use Rattle.rules.specs.declared.Answer.TheVariants.{Accepted, Overloaded}
 use Rattle.rules.specs.declared.Planned.{Planned}
 use Rattle.stretches.specs.Cell.{cell}
@@ -19,35 +17,21 @@ use Rattle.forest.specs.Peeled.{Peeled}
 use Rattle.forest.specs.Ring.{Kept}
 use Rattle.fitting.specs.Fits.{Fits}
 use Rattle.layout.specs.Laid.{LayAnswer}
-use Rattle.layout.specs.declared.Laid.{Laid}
-use Rattle.layout.specs.declared.Laid.TheVariants.{Pieces, Unfit}
-use Rattle.layout.proofs.Answered.{fits_laid, fits_unfit}
-use Rattle.planner.specs.Fill.{FillReady}
+use Rattle.layout.proofs.Answered.{fits_laid}
+use Rattle.planner.specs.Fill.{demand}
 use Rattle.planner.specs.Filled.{WholeBy, ShortBy}
 use Rattle.tests.specs.Given.{Admitted}
 use Rattle.planner.specs.Plan.{Settled}
-use Rattle.planner.proofs.FillLaws.{zeros}
 use Rattle.forest.proofs.Forest.{used_at_most, peeled_has_no_loop}
 use Rattle.forest.proofs.Unlooped.{kept_allocation}
-use Rattle.tests.specs.Verdict.{verdict_of}
-use Rattle.tests.specs.declared.Verdict.{Verdict}
-use Rattle.tests.specs.declared.Verdict.TheVariants.{Refused, Passed}
-use Rattle.tests.proofs.PassedLaws.{passed_ready}
+use Rattle.std.specs.Prelude.{Option, Some, None, IsSome}
 
-pieces_of : Laid → ℕ
-pieces_of (Pieces r) = r
-pieces_of Unfit = 0
+pieces_of : Option ℕ → ℕ
+pieces_of (Some r) = r
+pieces_of None = 0
 
 module _ (F m : ℕ) (budgets masks table : List ℕ) (d : Admitted F m budgets masks table) where
-  -- no units yet
-  pub fill_ready : FillReady F m budgets masks (replicate 1024 0)
-  fill_ready = record { given = d.given; long = length-replicate {A = ℕ} 1024 0; empty = zeros 1024 }
-
-  module _ (units : List ℕ) (w : WholeBy F m budgets masks units) where
-    -- no task has more units than a frame
-    pub rows_small : (a : ℕ) → a < length budgets → sum_to m (cell units a) ≤ 1000000
-    rows_small a l = omega (arith, w.allocation.exact a l, d.given.small a l, d.given.frame)
-
+  module _ (units : List ℕ) (w : WholeBy (demand F m budgets masks) units) where
     module _ (after : List ℕ) (k : Kept (length budgets) m (cell units) (cell after)) (p : Peeled (length budgets) m (cell after)) where
       again : Allocation (length budgets) m (limit_of F) (at budgets) (at masks) (cell after)
       again = kept_allocation w.allocation k
@@ -68,37 +52,31 @@ module _ (F m : ℕ) (budgets masks table : List ℕ) (d : Admitted F m budgets 
 
       settled_at : (r : ℕ) (now : List ℕ) → r ≡ length (table_of F (length budgets) m (cell after))
           → now ≡ numbers_of (table_of F (length budgets) m (cell after)) ++ drop (4 * length (table_of F (length budgets) m (cell after))) table
-          → Settled F m budgets masks table r now (cell after)
+          → Settled (demand F m budgets masks) table r now (cell after)
       settled_at r now e f = record { allocation = again; loop_free = peeled_has_no_loop p; pieces = e; table = f }
 
-      pub settled_by : (r : ℕ) (now : List ℕ) → LayAnswer F (length budgets) m after table (Pieces r) now → Settled F m budgets masks table r now (cell after)
+      laid_at : {o : Option ℕ} {now : List ℕ} → LayAnswer F (length budgets) m after table o now
+          → (o ≡ Some (length (table_of F (length budgets) m (cell after))))
+          × (now ≡ numbers_of (table_of F (length budgets) m (cell after)) ++ drop (4 * length (table_of F (length budgets) m (cell after))) table)
+      laid_at a = fits_laid F (length budgets) m after table layout_fits a
+
+      pub settled_some : {o : Option ℕ} {now : List ℕ} → LayAnswer F (length budgets) m after table o now → IsSome o
+      settled_some a = let P : Option ℕ → Type 0 = λ o. IsSome o in subst P (sym (laid_at a).0) refl
+
+      pub settled_by : {o : Option ℕ} (r : ℕ) {now : List ℕ} → LayAnswer F (length budgets) m after table o now → o ≡ Some r → Settled (demand F m budgets masks) table r now (cell after)
       unfolding pieces_of
-      settled_by r now a = let l = fits_laid F (length budgets) m after table layout_fits a in settled_at r now (ap pieces_of l.0) l.1
+      settled_by r a e = settled_at r _ (ap pieces_of (sym e ∙ (laid_at a).0)) (laid_at a).1
 
-      pub settled_never : (now : List ℕ) → LayAnswer F (length budgets) m after table Unfit now → Settled F m budgets masks table 0 now (cell after)
-      settled_never now a = absurd (fits_unfit F (length budgets) m after table layout_fits a refl)
-
-  pub decided_whole : (r : ℕ) (now : List ℕ) (x : ℕ → ℕ → ℕ) → Settled F m budgets masks table r now x
+  pub decided_whole : (r : ℕ) (now : List ℕ) (x : ℕ → ℕ → ℕ) → Settled (demand F m budgets masks) table r now x
       → Decided F m budgets masks table (record { answer = Accepted; pieces = r }) now
   decided_whole r now x s =
       planned x (record { allocation = s.allocation; loop_free = s.loop_free; answer = refl; pieces = s.pieces; table = s.table })
 
-  pub decided_short : (g c : ℕ) → ShortBy F m budgets masks g c → Decided F m budgets masks table (record { answer = Overloaded g c; pieces = 0 }) table
+  pub decided_short : (g c : ℕ) → ShortBy (demand F m budgets masks) g c → Decided F m budgets masks table (record { answer = Overloaded g c; pieces = 0 }) table
   decided_short g c s =
       overloaded g
       (record { exceeds = s.exceeds; smallest = s.smallest; refusal = record { answer = ap (Overloaded g) s.cores; pieces = refl; kept = refl } })
 
 module _ (F m : ℕ) (budgets masks before : List ℕ) where
-  -- the verdict of the tests, by its case
-  pub answer_refused : {v : Verdict} {a : Answer} → v ≡ Refused a → verdict_of v ≡ tested F m budgets masks before
-      → PlanAnswer F m budgets masks before (record { answer = a; pieces = 0 }) before
-  answer_refused {a = a} e h =
-      subst (λ (t : Tested). PlanAnswerAt t F m budgets masks before (record { answer = a; pieces = 0 }) before) (sym (ap verdict_of e) ∙ h)
-      (record { answer = refl; pieces = refl; kept = refl })
-
-  pub answer_ready : {v : Verdict} → v ≡ Passed → verdict_of v ≡ tested F m budgets masks before → Admitted F m budgets masks before
-  answer_ready e h = passed_ready F m budgets masks before (sym h ∙ ap verdict_of e)
-
-  pub answer_decided : {v : Verdict} (r : Planned) (after : List ℕ) → v ≡ Passed → verdict_of v ≡ tested F m budgets masks before
-      → Decided F m budgets masks before r after → PlanAnswer F m budgets masks before r after
-  answer_decided r after e h d = subst (λ (t : Tested). PlanAnswerAt t F m budgets masks before r after) (sym (ap verdict_of e) ∙ h) d
+  pub answer_decided : (r : Planned) (after : List ℕ) → passed ≡ tested F m budgets masks before → Decided F m budgets masks before r after → PlanAnswer F m budgets masks before r after
+  answer_decided r after h d = subst (λ (t : Tested). PlanAnswerAt t F m budgets masks before r after) h d

@@ -1,4 +1,4 @@
--- For advance of flow.rt, where the search ended with no core that has room: the excess of what it found says whether all budgets have
+-- For fill of flow.rt, where the search ended with no core that has room: the excess of what it found says whether all budgets have
 -- their units, or which group lacks most.
 -- Assumes nothing.
 use mathlib.Core.Path.{◌≡◌, sym, ◌∙◌, ap, subst}
@@ -51,7 +51,7 @@ module _ {F m : ℕ} {budgets masks : List ℕ} {s : Stock} (f : Filling (demand
         omega
         (arith, found_excess partial_of stuck f.given.narrow, capacity_all m c (limit_of F) f.given.cores k.cores)
 
-    pub ended_whole : {e : ℕ} → e ≡ group_budget (length budgets) (at budgets) g - capacity 16 (limit_of F) c → e ≡ 0 → WholeBy F m budgets masks s.units
+    pub ended_whole : {e : ℕ} → e ≡ group_budget (length budgets) (at budgets) g - capacity 16 (limit_of F) c → e ≡ 0 → WholeBy (demand F m budgets masks) s.units
     ended_whole d z =
         record {
           long = f.units_long;
@@ -70,7 +70,7 @@ module _ {F m : ℕ} {budgets masks : List ℕ} {s : Stock} (f : Filling (demand
               | no k ↦ ap (λ (v : ℕ). has v j) (get_or-eq_default masks 0 (past {i = i} (omega arith))) ∙ has_none j
             ]
 
-    pub ended_short : {e : ℕ} → e ≡ group_budget (length budgets) (at budgets) g - capacity 16 (limit_of F) c → (e ≡ 0 → ⊥) → ShortBy F m budgets masks g c
+    pub ended_short : {e : ℕ} → e ≡ group_budget (length budgets) (at budgets) g - capacity 16 (limit_of F) c → (e ≡ 0 → ⊥) → ShortBy (demand F m budgets masks) g c
     ended_short d ne =
         record {
           exceeds = found_exceeds partial_of stuck f.given.narrow (omega (arith, excess_left));

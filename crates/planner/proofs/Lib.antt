@@ -5,12 +5,9 @@ pub mod FillLaws
 pub mod GoBackLaws
 pub mod LinkLaws
 pub mod LooseLaws
-pub mod MoveLaws
 pub mod SearchLaws
 pub mod SeekLaws
 pub mod ShiftLaws
-pub mod StepBackLaws
 pub mod StepLaws
-pub mod UnloopLaws
 pub mod WayBackLaws
 pub mod WayLaws

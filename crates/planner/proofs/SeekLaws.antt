@@ -1,6 +1,6 @@
 -- For seek of search.rt, core after core: what is kept, the way back where a core has room, and the verdict where none has.
 -- Assumes nothing.
-use mathlib.Core.Path.{◌≡◌, ap}
+use mathlib.Core.Path.{◌≡◌, sym, ◌∙◌, subst}
 use mathlib.Core.List.{List}
 use Prim.Native.Nat.{ℕ, zero, suc, ◌+◌, ◌≤◌, ◌<◌}
 use native.Mathlib.Nat.{le_refl, not-suc-le-zero}
@@ -16,8 +16,7 @@ use Rattle.sums.proofs.Sets.{has_none, has_below}
 use Rattle.stretches.specs.Cell.{cell}
 use Rattle.overload.specs.Stuck.{Closed, Stuck}
 use Rattle.planner.specs.Stock.{Stock}
-use Rattle.planner.specs.declared.search.Seen.{Seen}
-use Rattle.planner.specs.Search.{Known, Found, Gathered, Swept, Sized, Sought, WayBack, trail, known, nothing}
+use Rattle.planner.specs.Search.{Known, Found, Gathered, Weighed, Swept, Sized, Sought, WayBack, emptied, core_at, task_at}
 use Rattle.planner.proofs.SearchLaws.{short, counted_nothing}
 
 never : {A : Type 0} {k : ℕ} → k < 0 → A
@@ -26,16 +25,16 @@ never l = absurd (not-suc-le-zero l)
 none_in : {A : Type 0} (i : ℕ) → has 0 i ≡ 1 → A
 none_in i e = absurd (zero_not_one (has_none i) e)
 
-module _ {m : ℕ} {masks : List ℕ} {a : Stock} {queue via from : List ℕ} where
-  found_nothing : m ≤ 16 → length masks ≤ 64 → Sized (trail queue via from) → Found m masks a 0 (known queue via from nothing)
-  found_nothing h k z =
+module _ {m : ℕ} {masks : List ℕ} {a : Stock} {k : Known} where
+  found_nothing : m ≤ 16 → length masks ≤ 64 → Sized k → Found m masks a 0 (emptied k)
+  found_nothing h t z =
       record {
-        tasks_few = k;
+        tasks_few = t;
         cores_few = h;
-        sized = z;
+        sized = record { queue_long = z.queue_long; from_long = z.from_long };
         tasks_in = pow_pos (length masks);
         cores_in = pow_pos m;
-        counted = counted_nothing m;
+        counted = counted_nothing;
         under = le_refl _;
         listed = λ p l. never l;
         every = λ j e. none_in j e;
@@ -47,7 +46,7 @@ module _ {m : ℕ} {masks : List ℕ} {a : Stock} {queue via from : List ℕ} wh
       }
 
   -- one core more has been asked
-  found_later : {h : ℕ} {s : Seen} → Found m masks a h (known queue via from s) → h < s.tail → Found m masks a (h + 1) (known queue via from s)
+  found_later : {h : ℕ} → Found m masks a h k → h < k.tail → Found m masks a (h + 1) k
   found_later {h} f l =
       record {
         tasks_few = f.tasks_few;
@@ -69,41 +68,49 @@ module _ {m : ℕ} {masks : List ℕ} {a : Stock} {queue via from : List ℕ} wh
       later : {p : ℕ} → p < h → p < h + 1
       later l = omega arith
 
-module _ {m : ℕ} {masks : List ℕ} {a : Stock} {queue via from : List ℕ} where
-  pub sought_start : {k : Known} → m ≤ 16 → length masks ≤ 64 → Sized (trail queue via from)
-      → Swept m masks (at a.left) 0 (known queue via from nothing) k → Gathered (length masks) (at a.left) k.seen.tasks → Sought m masks a 0 k
-  sought_start h l z w g =
+-- the weights are those of the list of them
+gathered : {n tasks : ℕ} {Weighs : ℕ → ℕ → Type 0} {weight : ℕ → ℕ} → ((t w : ℕ) → t < n → Weighs t w → w ≡ weight t) → Weighed n Weighs tasks
+    → Gathered n weight tasks
+gathered sure g =
+    record {
+      each = λ t l z. let r = g.each t l in r.2 (subst (λ (w : ℕ). 0 < w) (sym (sure t r.0 l r.1)) z);
+    }
+
+module _ {m : ℕ} {masks : List ℕ} {a : Stock} where
+  pub sought_start : {Weighs : ℕ → ℕ → Type 0} {k k' : Known} → m ≤ 16 → length masks ≤ 64 → Sized k → Swept m masks Weighs 0 (length masks) (emptied k) k'
+      → ((t w : ℕ) → t < length masks → Weighs t w → w ≡ at a.left t) → Sought m masks a 0 k'
+  sought_start h l z w sure =
       record {
-        found = w.found a 0 (λ t l p e. absurd (zero_not_positive e p)) (found_nothing h l z);
-        starts = g;
+        found = w.found a 0 (λ t v i r p e. absurd (zero_not_positive (sure t v i r ∙ e) p)) (found_nothing h l z);
+        starts = gathered sure w.weighed;
         masks_in = w.masks_in (λ t e. none_in t e);
         full = λ p l. never l;
         held = λ p l. never l;
       }
 
-  module _ {h : ℕ} {s : Seen} (f : Sought m masks a h (known queue via from s)) where
-    listed_in : (p : ℕ) → p < s.tail → at queue p < m
+  module _ {h : ℕ} {s : Known} (f : Sought m masks a h s) where
+    listed_in : (p : ℕ) → p < s.tail → core_at s p < m
     listed_in p l = has_below m f.found.cores_in (f.found.listed p l)
 
-    pub place_small : h < s.tail → (h < 16) × (at queue h < 16)
+    pub place_small : h < s.tail → (h < 16) × (core_at s h < 16)
     place_small l = (omega (arith, short f.found), omega (arith, listed_in h l, f.found.cores_few))
 
-    pub sought_more : {k : Known} → h < s.tail → at a.room (at queue h) ≤ 0 → Swept m masks (λ t. cell a.units t (at queue h)) h (known queue via from s) k
-        → Gathered (length masks) (λ t. cell a.units t (at queue h)) k.seen.tasks → Sought m masks a (h + 1) k
-    sought_more l z w g =
+    pub sought_more : {Weighs : ℕ → ℕ → Type 0} {k : Known} → h < s.tail → at a.room (core_at s h) ≤ 0 → Swept m masks Weighs h (length masks) s k
+        → ((t w : ℕ) → t < length masks → Weighs t w → w ≡ cell a.units t (core_at s h)) → Sought m masks a (h + 1) k
+    sought_more {k = k} l z w sure =
         record {
-          found = w.found a (h + 1) (λ t k u e. (omega arith, u)) (found_later f.found l);
-          starts = record { each = λ t k u. w.onward.tasks t (f.starts.each t k u) };
+          found = w.found a (h + 1) (λ t v i r u e. (omega arith, rw (sure t v i r) at u)) (found_later f.found l);
+          starts = record { each = λ t b u. w.onward.tasks t (f.starts.each t b u) };
           masks_in = w.masks_in f.masks_in;
-          full = λ p k.
-              rw (w.onward.kept p (in_queue p k))
-              (elim (ℕ_discrete p h) [ yes e ↦ rw e (le-zero z) | no ne ↦ f.full p (before_last k ne) ]);
-          held = λ p k.
+          full = λ p b.
+              rw (w.onward.kept p (in_queue p b), core_at)
+              (elim (ℕ_discrete p h) [ yes e ↦ rw e (le-zero z) | no ne ↦ f.full p (before_last b ne) ]);
+          held = λ p b.
               record {
                 each = λ t i u.
                     elim (ℕ_discrete p h) [
-                      | yes e ↦ g.each t i (units_at t p h (ap (at queue) e) (rw (w.onward.kept p (in_queue p k)) at u))
-                      | no ne ↦ w.onward.tasks t ((f.held p (before_last k ne)).each t i (rw (w.onward.kept p (in_queue p k)) at u))
+                      | yes e ↦ (gathered sure w.weighed).each t i (units_at t p h e (rw (w.onward.kept p (in_queue p b), core_at) at u))
+                      | no ne ↦ w.onward.tasks t ((f.held p (before_last b ne)).each t i (rw (w.onward.kept p (in_queue p b), core_at) at u))
                     ];
               };
         }
@@ -111,10 +118,10 @@ module _ {m : ℕ} {masks : List ℕ} {a : Stock} {queue via from : List ℕ} wh
         in_queue : (p : ℕ) → p < h + 1 → p < s.tail
         in_queue p k = omega arith
 
-        units_at : (t p r : ℕ) → at queue p ≡ at queue r → 0 < cell a.units t (at queue p) → 0 < cell a.units t (at queue r)
+        units_at : (t p r : ℕ) → p ≡ r → 0 < cell a.units t (core_at s p) → 0 < cell a.units t (core_at s r)
         units_at t p r e u = rw e at u
 
-    pub sought_room : h < s.tail → 0 < at a.room (at queue h) → WayBack m masks a (trail queue via from) h
+    pub sought_room : h < s.tail → 0 < at a.room (core_at s h) → WayBack m masks a s h
     sought_room l u =
         record {
           place = (place_small l).0;
@@ -122,7 +129,7 @@ module _ {m : ℕ} {masks : List ℕ} {a : Stock} {queue via from : List ℕ} wh
           task = λ r k. has_below (length masks) f.found.tasks_in (f.found.through r (in_queue r k));
           allowed = λ r k. f.found.allowed r (in_queue r k);
           earlier = λ r k z. f.found.earlier r (in_queue r k) z;
-          holding = λ r k z. f.found.holding (at via r) (f.found.through r (in_queue r k)) z;
+          holding = λ r k z. f.found.holding (task_at s r) (f.found.through r (in_queue r k)) z;
           room_there = u;
         }
       where
@@ -135,33 +142,33 @@ module _ {m : ℕ} {masks : List ℕ} {a : Stock} {queue via from : List ℕ} wh
 
       -- everything closed holds the cores of the queue and the tasks found
       module _ (g c : ℕ) (k : Closed (length masks) m (at masks) (cell a.units) (at a.left) g c) where
-        task_held : (t : ℕ) → has s.tasks t ≡ 1 → (at a.left t ≡ 0 → has c (at queue (at from t)) ≡ 1) → has g t ≡ 1
+        task_held : (t : ℕ) → has s.tasks t ≡ 1 → (at a.left t ≡ 0 → has c (core_at s (at s.from t)) ≡ 1) → has g t ≡ 1
         task_held t e through =
             elim (dec_lt 0 (at a.left t)) [
               | yes u ↦ k.starts t t_in u
               | no z ↦
-                  k.units (at queue (at from t)) (listed_in (at from t) (omega (arith, f.found.asked t e (zero_of z), f.found.under))) (through (zero_of z)) t t_in
+                  k.units (core_at s (at s.from t)) (listed_in (at s.from t) (omega (arith, f.found.asked t e (zero_of z), f.found.under))) (through (zero_of z)) t t_in
                   (f.found.holding t e (zero_of z))
             ]
           where
             t_in : t < length masks
             t_in = has_below (length masks) f.found.tasks_in e
 
-        cores_held : (b p : ℕ) → p < b → p < s.tail → has c (at queue p) ≡ 1
+        cores_held : (b p : ℕ) → p < b → p < s.tail → has c (core_at s p) ≡ 1
         cores_held zero p l i = never l
         cores_held (suc b) p l i =
-            k.masks (at via p) (has_below (length masks) f.found.tasks_in (f.found.through p i))
-            (task_held (at via p) (f.found.through p i)
-            (λ z. cores_held b (at from (at via p)) (lower z) (omega (arith, f.found.earlier p i z))))
-            (at queue p) (listed_in p i) (f.found.allowed p i)
+            k.masks (task_at s p) (has_below (length masks) f.found.tasks_in (f.found.through p i))
+            (task_held (task_at s p) (f.found.through p i)
+            (λ z. cores_held b (at s.from (task_at s p)) (lower z) (omega (arith, f.found.earlier p i z))))
+            (core_at s p) (listed_in p i) (f.found.allowed p i)
           where
-            lower : at a.left (at via p) ≡ 0 → at from (at via p) < b
+            lower : at a.left (task_at s p) ≡ 0 → at s.from (task_at s p) < b
             lower z = omega (arith, f.found.earlier p i z)
 
         tasks_held : (t : ℕ) → has s.tasks t ≡ 1 → has g t ≡ 1
         tasks_held t e =
             task_held t e
-            (λ z. cores_held (suc (at from t)) (at from t) (le_refl _) (omega (arith, f.found.asked t e z, f.found.under)))
+            (λ z. cores_held (suc (at s.from t)) (at s.from t) (le_refl _) (omega (arith, f.found.asked t e z, f.found.under)))
 
       pub sought_end : Stuck (length masks) m (at masks) (cell a.units) (at a.left) (at a.room) s.tasks s.cores
       sought_end =
@@ -179,8 +186,8 @@ module _ {m : ℕ} {masks : List ℕ} {a : Stock} {queue via from : List ℕ} wh
             full = λ j k e. let r = f.found.every j e in rw r.2 at (f.full r.0 (all_asked r.0 r.1));
             reached = λ j k e.
                 let r = f.found.every j e in
-                (at via r.0, has_below (length masks) f.found.tasks_in (f.found.through r.0 r.1), f.found.through r.0 r.1, rw r.2 at (f.found.allowed r.0 r.1));
+                (task_at s r.0, has_below (length masks) f.found.tasks_in (f.found.through r.0 r.1), f.found.through r.0 r.1, rw r.2 at (f.found.allowed r.0 r.1));
             touched = λ t l e z.
-                (at queue (at from t), listed_in (at from t) (omega (arith, f.found.asked t e z, f.found.under)), f.found.holding t e z);
+                (core_at s (at s.from t), listed_in (at s.from t) (omega (arith, f.found.asked t e z, f.found.under)), f.found.holding t e z);
             least = λ g c k t l e. tasks_held g c k t e;
           }

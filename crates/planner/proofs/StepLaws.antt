@@ -1,4 +1,4 @@
--- For place and take of steps.rt: the two elementary steps keep a partial allocation at every moment.
+-- For place, take and share of steps.rt: the elementary steps keep a partial allocation at every moment.
 -- Assumes nothing.
 use mathlib.Core.Path.{◌≡◌, sym, ◌∙◌, ap, ap₂}
 use mathlib.Core.List.{List}
@@ -14,7 +14,7 @@ use Rattle.rules.specs.Plan.{at}
 use Rattle.sums.proofs.Sum.{sum_but_one, sum_cong, sum_term}
 use Rattle.stretches.specs.Cell.{cell}
 use Rattle.planner.specs.Fill.{Filling, demand}
-use Rattle.planner.specs.Stock.{Stock, PlaceFits, TakeFits, ShareFits, stock, placed, taken, raise, lower}
+use Rattle.planner.specs.Stock.{Stock, PlaceFits, TakeFits, ShareFits, stock, placed, taken, share, shared, raise, lower}
 
 pub raise_same : (l : List ℕ) (k d : ℕ) → k < length l → at (raise l k d) k ≡ at l k + d
 unfolding raise
@@ -188,3 +188,18 @@ sharing {budgets = budgets} {s = s} {i = i} {j = j} f i-in j-in =
       core = le_trans j-in f.given.cores;
       units_fit = omega (arith, sum_term (length budgets) i (λ a. cell s.units a j) i-in, f.column j j-in, f.given.frame);
     }
+
+-- what a core has room for, of what a task lacks
+module _ (s : Stock) (t j : ℕ) {d : ℕ} (amount : d ≡ share s t j) where
+  pub share_place : ShareFits s t j → PlaceFits s t j d
+  share_place f =
+      record {
+        task = f.task;
+        core = f.core;
+        left_there = omega arith;
+        room_there = omega arith;
+        units_fit = omega (arith, f.units_fit);
+      }
+
+  pub share_done : {s' : Stock} → s' ≡ placed s t j d → s' ≡ shared s t j
+  share_done e = e ∙ rw amount

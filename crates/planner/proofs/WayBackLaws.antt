@@ -16,12 +16,12 @@ use Rattle.sums.proofs.Sets.{has_one}
 use Rattle.stretches.specs.Cell.{cell}
 use Rattle.planner.specs.Fill.{Filling, demand, lack}
 use Rattle.planner.specs.Stock.{ShareFits, Stock, stock, share, shared}
-use Rattle.planner.specs.Search.{Trail, WayBack, task_at, core_at, place_before, core_before}
+use Rattle.planner.specs.Search.{Known, WayBack, task_at, core_at, place_before, core_before}
 use Rattle.planner.specs.Back.{StepFits, backward, freed, moved}
 use Rattle.planner.specs.Filled.{MoreBy}
 use Rattle.planner.proofs.StepLaws.{raise_same, raise_other, lower_same, lower_other, raise_lower, taken_kept, placed_kept, placing, taking, sharing}
 
-module _ {F m : ℕ} {budgets masks : List ℕ} {s : Stock} {w : Trail} {p : ℕ} (f : Filling (demand F m budgets masks) s) (b : WayBack m masks s w p) where
+module _ {F m : ℕ} {budgets masks : List ℕ} {s : Stock} {w : Known} {p : ℕ} (f : Filling (demand F m budgets masks) s) (b : WayBack m masks s w p) where
   -- the task and the core at the place p
   task_in : task_at w p < length budgets
   task_in = omega (arith, b.task p (le_refl p), f.given.paired)
@@ -167,7 +167,7 @@ module _ {F m : ℕ} {budgets masks : List ℕ} {s : Stock} {w : Trail} {p : ℕ
     pub back_filling : {s' : Stock} → s' ≡ moved s w p → Filling (demand F m budgets masks) s'
     back_filling d = subst (Filling (demand F m budgets masks)) (sym d) moved_kept
 
-    pub back_left : {units' left' room' start : List ℕ} → stock units' left' room' ≡ moved s w p → s.left ≡ start → left' ≡ start
+    pub back_left : {s' : Stock} {start : List ℕ} → s' ≡ moved s w p → s.left ≡ start → s'.left ≡ start
     back_left d o = ap (λ (y : Stock). y.left) d ∙ same_left ∙ o
 
     pub back_way : {s' : Stock} {r : ℕ} → s' ≡ moved s w p → r ≡ place_before w p → WayBack m masks s' w r

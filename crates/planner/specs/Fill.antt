@@ -1,12 +1,13 @@
 -- What fill asks, keeps and answers, over the lists that the code holds. The kept facts make the proofs easy and need no belief.
 -- Assumes nothing.
-use Rattle.std.specs.Prelude.{◌≡◌, List, ℕ, ◌+◌, ◌<◌, length}
+use Rattle.std.specs.Prelude.{◌≡◌, List, ℕ, ◌+◌, ◌<◌, length, replicate}
 use Rattle.rules.specs.Sizes.{max_cores, max_tasks}
 use Rattle.rules.specs.Sum.{sum_to}
 use Rattle.rules.specs.Sets.{has}
 use Rattle.rules.specs.Plan.{at}
 use Rattle.stretches.specs.Cell.{cell}
 use Rattle.tests.specs.Given.{Given}
+use Rattle.planner.specs.declared.asked.Asked.{Asked}
 use Rattle.planner.specs.Stock.{Stock}
 
 -- what is asked of the cores: the frame's length, how many cores there are, and each task's budget and mask
@@ -19,16 +20,14 @@ pub record Demand : Type 0 where
 abbrev pub demand : ℕ → ℕ → List ℕ → List ℕ → Demand
 demand F m budgets masks = record { frame = F; cores = m; budgets = budgets; masks = masks }
 
--- what fill asks: sizes as tested, and no units yet
-pub record FillReady (F m : ℕ) (budgets masks units : List ℕ) : Type 0 where
-  pub given : Given F m budgets masks
-  pub long : length units ≡ 1024
-  pub empty : (k : ℕ) → at units k ≡ 0
+abbrev pub demanded : Asked → Demand
+demanded a = demand a.frame a.cores a.budgets.now a.masks.now
 
--- the first n budgets are copied
-pub record Copied (budgets left : List ℕ) (n : ℕ) : Type 0 where
-  pub long : length left ≡ max_tasks
-  pub same : (i : ℕ) → i < n → at left i ≡ at budgets i
+-- what fill asks: a stock with no units yet, where all cores have room
+pub record FillReady (F : ℕ) (s : Stock) : Type 0 where
+  pub units : s.units ≡ replicate 1024 0
+  pub left : length s.left ≡ max_tasks
+  pub room : s.room ≡ replicate 16 F
 
 -- a partial allocation at every moment: sixteen units a task, none outside its mask, and what lacks to each budget and each core's limit
 pub record Filling (asked : Demand) (s : Stock) : Type 0 where

@@ -6,4 +6,5 @@ pub mod Plan
 pub mod Search
 pub mod Seeking
 pub mod Shifts
+pub mod Sides
 pub mod Stock

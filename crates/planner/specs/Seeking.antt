@@ -1,25 +1,35 @@
--- The search for a cycle, over the lists that the code holds.
+-- The search for a cycle, over the values that the code holds.
 -- Assumes nothing.
-use Rattle.std.specs.Prelude.{◌≡◌, Bool, true, false, ℕ, suc, ◌-◌, ◌*◌, ◌≤◌, ◌<◌}
-use Rattle.rules.specs.Sum.{positive}
+use Rattle.std.specs.Prelude.{◌≡◌, ℕ, suc, ◌<◌, Option, Some, None}
 use Rattle.rules.specs.Sets.{has}
-use Rattle.forest.specs.Stripping.{Fast}
+use Rattle.forest.specs.Path.{Place, FirstThere}
+use Rattle.forest.specs.Stripping.{Stripping, Fast}
+use Rattle.planner.specs.declared.peel.Gone.{Gone}
 
--- r says whether there are units towards a vertex that is still there and is not the one we came from
-pub record Suits (units gone at from : ℕ) (r : Bool) : Type 0 where
-  pub units_there : r ≡ true → 0 < units
-  pub not_gone : r ≡ true → gone ≡ 0
-  pub not_back : r ≡ true → at ≡ from → ⊥
-  pub nothing : r ≡ false → (at ≡ from → ⊥) → (1 - gone) * positive units ≡ 0
+-- what is gone was loose when it went
+abbrev pub Stripped : ℕ → ℕ → (ℕ → ℕ → ℕ) → Gone → Type 0
+Stripped n m x o = Stripping n m x o.tasks o.cores
 
--- r is the core before place k
-abbrev pub Came : (ℕ → ℕ) → ℕ → ℕ → Type 0
-Came core k r = (i : ℕ) → suc i ≡ k → r ≡ core i
+-- nothing is loose any more
+abbrev pub Bare : ℕ → ℕ → (ℕ → ℕ → ℕ) → Gone → Type 0
+Bare n m x o = Fast n m x o.tasks o.cores
+
+-- the lowest task that is still there, or none where all are gone
+abbrev pub TaskLeft : ℕ → ℕ → Option ℕ → Type 0
+TaskLeft n gone (Some r) = (r < n) × FirstThere n gone r
+TaskLeft n gone None = FirstThere n gone n
+
+-- the first place of v among the first c of a list, or none where it does not stand there
+abbrev pub PlaceIn : (ℕ → ℕ) → ℕ → ℕ → Option ℕ → Type 0
+PlaceIn list c v (Some r) = (r < c) × Place list c v r
+PlaceIn list c v None = Place list c v c
+
+-- r is the core before place k, where there is one
+abbrev pub Came : (ℕ → ℕ) → ℕ → Option ℕ → Type 0
+Came core k r = (i : ℕ) → suc i ≡ k → r ≡ Some (core i)
 
 -- what is known before a cycle is sought
-pub record SeekReady (n m : ℕ) (x : ℕ → ℕ → ℕ) (tasksGone coresGone start : ℕ) : Type 0 where
-  pub tasks : n ≤ 64
-  pub cores : m ≤ 16
+pub record SeekReady (n m : ℕ) (x : ℕ → ℕ → ℕ) (gone : Gone) (start : ℕ) : Type 0 where
   pub below : start < n
-  pub still : has tasksGone start ≡ 0
-  pub fast : Fast n m x tasksGone coresGone
+  pub still : has gone.tasks start ≡ 0
+  pub fast : Bare n m x gone

@@ -1,120 +1,74 @@
 // A cycle in a graph of units in which every vertex that is still there has two links: a way from task to core to task that never turns
 // back comes to a vertex again, since there are at most sixteen cores.
-ghost use Rattle.std.specs.Prelude.{◌≡◌, false, ◌+◌, ◌*◌, ◌≤◌, ◌<◌, length};
+ghost use Rattle.std.specs.Prelude.{◌≡◌, ℕ, ◌≤◌, ◌<◌, length};
 ghost use Rattle.rules.specs.Plan.{at};
 ghost use Rattle.stretches.specs.Cell.{cell};
-ghost use Rattle.forest.specs.Stripping.{links};
 ghost use Rattle.forest.specs.Ring.{Ring};
-ghost use Rattle.forest.specs.Path.{Other, Place};
-ghost use Rattle.planner.specs.Seeking.{Suits, SeekReady};
+ghost use Rattle.planner.specs.Seeking.{PlaceIn, SeekReady};
 
 use crate::peel::Gone;
-use sets::{core_in, task_in};
+use crate::side::Side;
+use grid::Grid;
 
-// Whether a vertex has units, is still there, and is not the one we came from.
-fn suits(units: u32, gone: u64, at: usize, from: usize) -> bool
-    requires { gone < 2 }
-    ensures { Suits units gone at from result }
-{
-    if at == from {
-        return false;
-    }
-    if gone == 0 {
-        return 0 < units;
-    }
-    false
-}
-
-// Another core of the task than the one we came from.
-fn other_core(units: &[u32; 1024], cores: usize, gone: u16, task: usize, from: usize) -> usize
-    requires { (cores ≤ 16) × (task < 64) × (2 ≤ links cores gone (cell units.now) task) }
-    ensures { Other cores gone (cell units.now task) from result }
-{
-    let mut j: usize = 0;
-    while j < cores {
-        if suits(units[task * 16 + j], core_in(gone, j) as u64, j, from) {
-            return j;
-        }
-        j += 1;
-    }
-    j
-}
-
-// Another task of the core than the one we came from.
-fn other_task(units: &[u32; 1024], tasks: usize, gone: u64, core: usize, from: usize) -> usize
-    requires { (tasks ≤ 64) × (core < 16) × (2 ≤ links tasks gone (λ j i. cell units.now i j) core) }
-    ensures { Other tasks gone (λ i. cell units.now i core) from result }
-{
-    let mut i: usize = 0;
-    while i < tasks {
-        if suits(units[i * 16 + core], task_in(gone, i), i, from) {
-            return i;
-        }
-        i += 1;
-    }
-    i
-}
-
-// The first place of a number among the first ones of a list; how many these are where it does not stand there.
-fn place_of(list: &[usize; 18], count: usize, value: usize) -> usize
-    requires { count ≤ 18 }
-    ensures { Place (at list.now) count value result }
-{
-    let mut i: usize = 0;
-    while i < count {
-        if list[i] == value {
-            return i;
-        }
-        i += 1;
-    }
-    i
-}
-
-// The places of two lists between which a cycle stands: from lo to hi - 1.
-#[derive(Drop)]
-pub(crate) struct Span {
+// The cycle stands in the places lo to hi - 1 of the two lists: each task there has units on its core and on the core before it, round
+// the cycle. They are two lists with two bounds, as `Ring` (forest) speaks of a cycle.
+#[derive(Clone, Copy)]
+pub(crate) struct Cycle {
+    pub(crate) tasks: [usize; 18],
+    pub(crate) cores: [usize; 18],
     pub(crate) lo: usize,
     pub(crate) hi: usize,
+    ghost some: { lo < hi },
+    ghost places: { hi ≤ 18 },
+    ghost few_tasks: { (i : ℕ) → lo ≤ i → i < hi → at tasks i < 64 },
+    ghost few_cores: { (i : ℕ) → lo ≤ i → i < hi → at cores i < 16 },
+}
+
+// The first place of a number in a list.
+fn place_of(list: &[usize], value: usize) -> Option<usize>
+    ensures { PlaceIn (at list.now) (length list.now) value result }
+{
+    list.iter().position(|x| *x == value)
 }
 
 // The way from a task that is still there, until it meets itself.
-pub(crate) fn find_cycle(
-    units: &[u32; 1024],
-    n: usize,
-    m: usize,
-    gone: Gone,
-    start: usize,
-    tasks: &mut [usize; 18],
-    cores: &mut [usize; 18],
-) -> Span
-    requires { (length tasks.old ≡ 18) × (length cores.old ≡ 18) × SeekReady n m (cell units.now) gone.tasks gone.cores start }
-    ensures { Ring n m (cell units.now) (at tasks.new) (at cores.new) result.lo result.hi × (result.hi ≤ 18) }
+pub(crate) fn find_cycle(grid: Grid, gone: Gone, start: usize) -> Cycle
+    requires { SeekReady grid.tasks grid.cores (cell grid.units.now) gone start }
+    ensures { Ring grid.entry.tasks grid.entry.cores (cell grid.entry.units.now) (at result.tasks) (at result.cores) result.lo result.hi }
 {
-    let tasks_gone = gone.tasks;
-    let cores_gone = gone.cores;
-    tasks[0] = start;
-    let mut k: usize = 0;
-    // the core through which the way came to task k; none at the first task
-    let mut from: usize = 16;
+    let by_task = Side::tasks(grid);
+    let by_core = Side::cores(grid);
+    let mut tasks = [start; 18];
+    let mut cores = [0; 18];
+    let mut k = 0;
+    // the core through which the way came to task k
+    let mut from = None;
+    // no range to walk: the way ends where it meets itself
     loop {
         let next = k + 1;
         let t = tasks[k];
-        let c = other_core(units, m, cores_gone, t, from);
-        let a = place_of(cores, k, c);
+        let c = by_task.other(t, gone.cores, from);
+        let met = place_of(&cores[..k], c);
         cores[k] = c;
-        if a < k {
-            return Span {
+        if let Some(a) = met {
+            return Cycle {
+                tasks,
+                cores,
                 lo: a + 1,
                 hi: next,
             };
         }
-        let u = other_task(units, n, tasks_gone, c, t);
-        let b = place_of(tasks, next, u);
-        if b < next {
-            return Span { lo: b, hi: next };
+        let u = by_core.other(c, gone.tasks, Some(t));
+        if let Some(b) = place_of(&tasks[..next], u) {
+            return Cycle {
+                tasks,
+                cores,
+                lo: b,
+                hi: next,
+            };
         }
         tasks[next] = u;
         k = next;
-        from = c;
+        from = Some(c);
     }
 }

@@ -1,35 +1,29 @@
 // A set that passed the tests: the greatest allocation decides between a table and the overloaded group.
+ghost use Rattle.std.specs.Prelude.{◌+◌, ◌*◌, ◌/◌, ◌≤◌, length};
 ghost use Rattle.rules.specs.Plan.{Decided};
 ghost use Rattle.stretches.specs.Cell.{cell};
+ghost use Rattle.planner.specs.Fill.{demanded};
 ghost use Rattle.planner.specs.Filled.{WholeBy};
 ghost use Rattle.tests.specs.Given.{Admitted};
 ghost use Rattle.planner.specs.Plan.{Settled};
 
-use crate::flow::{Filled, fill};
+use crate::asked::Asked;
+use crate::flow::fill;
+use crate::steps::Stock;
 use crate::unloop::unloop;
-use layout::{Laid, lay_out};
+use layout::lay_out;
 use rules::{Answer, Planned};
 
 // An allocation loses its loops, and its table is written.
-fn settle(
-    frame: u32,
-    cores: usize,
-    budgets: &[u32],
-    masks: &[u16],
-    units: &mut [u32; 1024],
-    table: &mut [u32],
-) -> usize
-    requires { Admitted frame cores budgets.now masks.now table.old × WholeBy frame cores budgets.now masks.now units.old }
-    ensures { Settled frame cores budgets.now masks.now table.old result table.new (cell units.new) }
+fn settle(asked: &Asked, units: &mut [u32; 1024], table: &mut [u32]) -> usize
+    requires room { length asked.now.budgets.now + 2 * asked.now.cores ≤ length table.old / 4 + 1 }
+    requires whole { WholeBy (demanded asked.now) units.old }
+    ensures { Settled (demanded asked.now) table.old result table.new (cell units.new) }
 {
-    let tasks = budgets.len();
-    unloop(units, tasks, cores);
-    let laid = lay_out(frame, tasks, cores, units, table);
-    match laid {
-        Laid::Pieces(pieces) => pieces,
-        // never: the units of an admitted set without loops fit
-        Laid::Unfit => 0,
-    }
+    let tasks = asked.budgets.len();
+    unloop(units, tasks, asked.cores);
+    // the units of an admitted set without loops fit
+    lay_out(asked.frame, tasks, asked.cores, units, table).unwrap()
 }
 
 pub(crate) fn decide(
@@ -42,18 +36,27 @@ pub(crate) fn decide(
     requires { Admitted frame cores budgets.now masks.now table.old }
     ensures { Decided frame cores budgets.now masks.now table.old result table.new }
 {
-    let mut units = [0u32; 1024];
-    let filled = fill(frame, cores, budgets, masks, &mut units);
-    match filled {
-        Filled::Whole => {
-            let pieces = settle(frame, cores, budgets, masks, &mut units, table);
-            Planned {
-                answer: Answer::Accepted,
-                pieces,
-            }
-        }
-        Filled::Short { group, cores } => Planned {
-            answer: Answer::Overloaded { group, cores },
+    let asked = Asked {
+        frame,
+        cores,
+        budgets,
+        masks,
+    };
+    let mut stock = Stock {
+        units: [0; 1024],
+        left: [0; 64],
+        room: [frame; 16],
+    };
+    match fill(&asked, &mut stock) {
+        Ok(()) => Planned {
+            answer: Answer::Accepted,
+            pieces: settle(&asked, &mut stock.units, table),
+        },
+        Err(group) => Planned {
+            answer: Answer::Overloaded {
+                group: group.tasks,
+                cores: group.cores,
+            },
             pieces: 0,
         },
     }

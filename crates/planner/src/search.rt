@@ -1,254 +1,123 @@
 // The search for a core with room: breadth first from the tasks that lack units. A task reaches the cores of its mask, a full core the
 // tasks with units on it. Each core is queued once, with the task through which it was reached; each task keeps the place in the queue
 // through which it was found.
-ghost use Rattle.std.specs.Prelude.{◌+◌, ◌≤◌, ◌<◌, length};
+ghost use Rattle.std.specs.Prelude.{◌≡◌, ◌≤◌, length};
 ghost use Rattle.rules.specs.Sizes.{max_cores, max_tasks};
+ghost use Rattle.rules.specs.Sum.{sum_to};
 ghost use Rattle.rules.specs.Sets.{has};
-ghost use Rattle.rules.specs.Plan.{at};
-ghost use Rattle.stretches.specs.Cell.{cell};
-ghost use Rattle.planner.specs.Stock.{stock};
-ghost use Rattle.planner.specs.Search.{Counted, Holds, Gathered, Reached, Met, Swept, Sized, Sight, trail, known, queued, nothing};
 
-use sets::{core_in, task_in, with_core, with_task};
+use crate::asked::Asked;
+use crate::steps::Stock;
+use sets::Set;
 
-// What was found: so many cores queued, which tasks, which cores.
+// A core of the queue, and the task that reached it.
+#[derive(Clone, Copy)]
+pub(crate) struct Hop {
+    pub core: usize,
+    pub task: usize,
+}
+
+// What a search found.
 #[derive(Drop)]
-pub(crate) struct Seen {
+pub(crate) struct Trail {
+    // the cores in the order in which they were reached, up to the tail: there is no heap for a list that grows
+    pub queue: [Hop; 16],
+    // by task: the place of the queue through which it was found; any for one that lacks units, where the way back ends
+    pub from: [usize; 64],
+    // so many cores are queued
     pub tail: usize,
+    // the tasks and the cores found
     pub tasks: u64,
     pub cores: u16,
+    ghost long: { (length queue ≡ max_cores) × (length from ≡ max_tasks) },
+    ghost counted: { tail ≡ sum_to max_cores (has cores) },
 }
 
-// A place of the queue whose core has room, or all that can be reached, where no core has.
-#[derive(Drop)]
-pub(crate) enum Outcome {
-    Room(usize),
-    Closed { tasks: u64, cores: u16 },
-}
+impl Trail {
+    ghost use Rattle.std.specs.Prelude.{ℕ, ◌<◌};
+    ghost use Rattle.planner.specs.Search.{Holds, Reached, Met, Swept, Sight, known};
 
-// A visit to a task: its mask, what it weighs, and the place of the queue through which it is found.
-#[derive(Drop)]
-pub(crate) struct Visit {
-    pub task: usize,
-    pub mask: u16,
-    pub weight: u32,
-    pub place: usize,
-}
-
-// Core j is queued for task t, if its mask holds it and no task has reached it.
-fn reach_one(
-    cores: usize,
-    t: usize,
-    mask: u16,
-    queue: &mut [usize; 16],
-    via: &mut [usize; 16],
-    seen: Seen,
-    j: usize,
-) -> Seen
-    requires few { cores ≤ max_cores }
-    requires core { j < cores }
-    requires counted { Counted cores seen }
-    ensures reached { Reached cores t mask (queued queue.old via.old seen) (queued queue.new via.new result) }
-    ensures holds { has mask j ≤ has result.cores j }
-{
-    let tail = seen.tail;
-    let found = seen.cores;
-    if core_in(mask, j) == 0 {
-        return seen;
-    }
-    if core_in(found, j) == 1 {
-        return seen;
-    }
-    queue[tail] = j;
-    via[tail] = t;
-    Seen {
-        tail: tail + 1,
-        tasks: seen.tasks,
-        cores: with_core(found, j),
-    }
-}
-
-// Task t reaches the cores of its mask.
-fn reach(
-    cores: usize,
-    t: usize,
-    mask: u16,
-    queue: &mut [usize; 16],
-    via: &mut [usize; 16],
-    seen: Seen,
-) -> Seen
-    requires few { cores ≤ max_cores }
-    requires counted { Counted cores seen }
-    ensures reached { Reached cores t mask (queued queue.old via.old seen) (queued queue.new via.new result) }
-    ensures holds { Holds cores mask result.cores }
-{
-    let found = seen.cores;
-    if (mask | found) == found {
-        return seen;
-    }
-    let mut s = seen;
-    let mut j = 0;
-    while j < cores {
-        s = reach_one(cores, t, mask, queue, via, s, j);
-        j += 1;
-    }
-    s
-}
-
-// The task visited, if it weighs anything and was not found before, is found, and reaches its cores.
-fn find(
-    cores: usize,
-    visit: Visit,
-    queue: &mut [usize; 16],
-    via: &mut [usize; 16],
-    from: &mut [usize; 64],
-    seen: Seen,
-) -> Seen
-    requires few { cores ≤ max_cores }
-    requires task { visit.task < max_tasks }
-    requires counted { Counted cores seen }
-    ensures met { Met
-        cores
-        visit
-        (known queue.old via.old from.old seen)
-        (known queue.new via.new from.new result) }
-{
-    let tasks = seen.tasks;
-    let t = visit.task;
-    let weight = visit.weight;
-    if weight == 0 {
-        return seen;
-    }
-    if task_in(tasks, t) == 1 {
-        return seen;
-    }
-    from[t] = visit.place;
-    let next = Seen {
-        tail: seen.tail,
-        tasks: with_task(tasks, t),
-        cores: seen.cores,
-    };
-    reach(cores, t, visit.mask, queue, via, next)
-}
-
-// The starts: all tasks that lack units.
-fn begin(
-    cores: usize,
-    masks: &[u16],
-    left: &[u32; 64],
-    queue: &mut [usize; 16],
-    via: &mut [usize; 16],
-    from: &mut [usize; 64],
-) -> Seen
-    requires few { cores ≤ max_cores }
-    requires tasks { length masks.now ≤ max_tasks }
-    ensures swept { Swept
-        cores
-        masks.now
-        (at left.now)
-        0
-        (known queue.old via.old from.old nothing)
-        (known queue.new via.new from.new result) }
-    ensures gathered { Gathered (length masks.now) (at left.now) result.tasks }
-{
-    let mut s = Seen {
-        tail: 0,
-        tasks: 0,
-        cores: 0,
-    };
-    let mut t = 0;
-    while t < masks.len() {
-        let mask = masks[t];
-        let weight = left[t];
-        let visit = Visit {
-            task: t,
-            mask,
-            weight,
-            place: 0,
-        };
-        s = find(cores, visit, queue, via, from, s);
-        t += 1;
-    }
-    s
-}
-
-// The tasks with units on the core at the place p of the queue are found through it.
-fn expand(
-    cores: usize,
-    masks: &[u16],
-    units: &[u32; 1024],
-    p: usize,
-    queue: &mut [usize; 16],
-    via: &mut [usize; 16],
-    from: &mut [usize; 64],
-    seen: Seen,
-) -> Seen
-    requires few { cores ≤ max_cores }
-    requires tasks { length masks.now ≤ max_tasks }
-    requires place { p < max_cores }
-    requires core { at queue.old p < max_cores }
-    requires counted { Counted cores seen }
-    ensures swept { Swept
-        cores
-        masks.now
-        (λ t. cell units.now t (at queue.old p))
-        p
-        (known queue.old via.old from.old seen)
-        (known queue.new via.new from.new result) }
-    ensures gathered { Gathered (length masks.now) (λ t. cell units.now t (at queue.old p)) result.tasks }
-{
-    let core = queue[p];
-    let mut s = seen;
-    let mut t = 0;
-    while t < masks.len() {
-        let mask = masks[t];
-        let weight = units[t * 16 + core];
-        let visit = Visit {
-            task: t,
-            mask,
-            weight,
-            place: p,
-        };
-        s = find(cores, visit, queue, via, from, s);
-        t += 1;
-    }
-    s
-}
-
-// Core after core of the queue, until one has room or none is left.
-pub(crate) fn seek(
-    cores: usize,
-    masks: &[u16],
-    units: &[u32; 1024],
-    left: &[u32; 64],
-    room: &[u32; 16],
-    queue: &mut [usize; 16],
-    via: &mut [usize; 16],
-    from: &mut [usize; 64],
-) -> Outcome
-    requires few { cores ≤ max_cores }
-    requires tasks { length masks.now ≤ max_tasks }
-    requires sized { Sized (trail queue.old via.old from.old) }
-    ensures sized { Sized (trail queue.new via.new from.new) }
-    ensures sight { Sight
-        cores
-        masks.now
-        (stock units.now left.now room.now)
-        (trail queue.new via.new from.new)
-        result }
-{
-    let mut s = begin(cores, masks, left, queue, via, from);
-    let mut head = 0;
-    while head < s.tail {
-        let core = queue[head];
-        if 0 < room[core] {
-            return Outcome::Room(head);
+    // Nothing is found.
+    #[tactic(auto, using(crate::proofs::SearchLaws::counted_nothing))]
+    pub(crate) fn new() -> Trail {
+        Trail {
+            queue: [Hop { core: 0, task: 0 }; 16],
+            from: [0; 64],
+            tail: 0,
+            tasks: 0,
+            cores: 0,
         }
-        s = expand(cores, masks, units, head, queue, via, from, s);
-        head += 1;
     }
-    Outcome::Closed {
-        tasks: s.tasks,
-        cores: s.cores,
+
+    // Core j is queued for task t, if its mask holds it and no task has reached it.
+    fn reach_one(&mut self, asked: &Asked, t: usize, mask: u16, j: usize)
+        requires { j < asked.now.cores }
+        ensures reached { Reached asked.now.cores t mask (known self.old) (known self.new) }
+        ensures holds { has mask j ≤ has self.new.cores j }
+    {
+        if !mask.has(j) || self.cores.has(j) {
+            return;
+        }
+        self.queue[self.tail] = Hop { core: j, task: t };
+        self.tail += 1;
+        self.cores = self.cores.with(j);
+    }
+
+    // Task t reaches the cores of its mask.
+    fn reach(&mut self, asked: &Asked, t: usize, mask: u16)
+        ensures reached { Reached asked.now.cores t mask (known self.old) (known self.new) }
+        ensures holds { Holds asked.now.cores mask self.new.cores }
+    {
+        if (mask | self.cores) == self.cores {
+            return;
+        }
+        for j in 0..asked.cores {
+            self.reach_one(asked, t, mask, j);
+        }
+    }
+
+    // Task t, if it weighs anything and was not found before, is found through the place p, and reaches the cores of its mask, which comes along
+    // from the walk over the masks.
+    fn find(&mut self, asked: &Asked, t: usize, mask: u16, weight: u32, p: usize)
+        requires { t < length asked.now.masks.now }
+        ensures { Met asked.now.cores t mask weight p (known self.old) (known self.new) }
+    {
+        if weight == 0 || self.tasks.has(t) {
+            return;
+        }
+        self.from[t] = p;
+        self.tasks = self.tasks.with(t);
+        self.reach(asked, t, mask);
+    }
+
+    // The tasks that weigh anything are found through the place p.
+    fn sweep<W: Fn(usize) -> u32>(&mut self, asked: &Asked, p: usize, weight: W)
+        requires { (t : ℕ) → t < length asked.now.masks.now → W.pre weight t }
+        ensures { Swept asked.now.cores asked.now.masks.now (W.post weight) p (length asked.now.masks.now) (known self.old) (known self.new) }
+    {
+        for (t, mask) in asked.masks.iter().enumerate() {
+            self.find(asked, t, *mask, weight(t), p);
+        }
+    }
+
+    // Core after core of the queue, until one has room: its place, or none if no core has any.
+    pub(crate) fn seek(&mut self, asked: &Asked, stock: &Stock) -> Option<usize>
+        ensures { Sight asked.now.cores asked.now.masks.now stock.now (known self.new) result }
+    {
+        self.tail = 0;
+        self.tasks = 0;
+        self.cores = 0;
+        self.sweep(asked, 0, |t| stock.left[t]);
+        let mut head = 0;
+        // no walk over the queue: it grows as it is read
+        while head < self.tail {
+            let core = self.queue[head].core;
+            if 0 < stock.room[core] {
+                return Some(head);
+            }
+            self.sweep(asked, head, |t| stock.units[t * 16 + core]);
+            head += 1;
+        }
+        None
     }
 }

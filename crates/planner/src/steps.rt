@@ -1,45 +1,45 @@
-// The elementary steps: units are placed on a core, or taken from it, and what lacks and what room is left are kept beside them.
+// The units of a partial allocation, with what lacks and what room is left kept beside them, and the elementary steps: units are placed
+// on a core, or taken from it.
 ghost use Rattle.std.specs.Prelude.{◌≡◌, min};
-ghost use Rattle.planner.specs.Stock.{PlaceFits, TakeFits, stock, placed, taken};
+ghost use Rattle.planner.specs.Stock.{PlaceFits, TakeFits, ShareFits, placed, taken, shared};
 
-pub(crate) fn lesser(a: u32, b: u32) -> u32
-    ensures { result ≡ min a b }
-{
-    if a < b { a } else { b }
+#[derive(Drop)]
+pub(crate) struct Stock {
+    // sixteen numbers a task: its units on each core
+    pub units: [u32; 1024],
+    // by task: what it lacks of its budget
+    pub left: [u32; 64],
+    // by core: what it has room for
+    pub room: [u32; 16],
 }
 
-// Task i gets d units more on core j.
-pub(crate) fn place(
-    units: &mut [u32; 1024],
-    left: &mut [u32; 64],
-    room: &mut [u32; 16],
-    i: usize,
-    j: usize,
-    d: u32,
-)
-    requires { PlaceFits (stock units.old left.old room.old) i j d }
-    ensures { stock units.new left.new room.new
-        ≡ placed (stock units.old left.old room.old) i j d }
-{
-    units[i * 16 + j] += d;
-    left[i] -= d;
-    room[j] -= d;
-}
+impl Stock {
+    // Task i gets d units more on core j.
+    pub(crate) fn place(&mut self, i: usize, j: usize, d: u32)
+        requires { PlaceFits self.old i j d }
+        ensures { self.new ≡ placed self.old i j d }
+    {
+        self.units[i * 16 + j] += d;
+        self.left[i] -= d;
+        self.room[j] -= d;
+    }
 
-// d units of task i leave core j.
-pub(crate) fn take(
-    units: &mut [u32; 1024],
-    left: &mut [u32; 64],
-    room: &mut [u32; 16],
-    i: usize,
-    j: usize,
-    d: u32,
-)
-    requires { TakeFits (stock units.old left.old room.old) i j d }
-    ensures { stock units.new left.new room.new
-        ≡ taken (stock units.old left.old room.old) i j d }
-{
-    units[i * 16 + j] -= d;
-    left[i] += d;
-    room[j] += d;
+    // d units of task i leave core j.
+    pub(crate) fn take(&mut self, i: usize, j: usize, d: u32)
+        requires { TakeFits self.old i j d }
+        ensures { self.new ≡ taken self.old i j d }
+    {
+        self.units[i * 16 + j] -= d;
+        self.left[i] += d;
+        self.room[j] += d;
+    }
+
+    // Task i gets what core j has room for, of what it lacks.
+    pub(crate) fn share(&mut self, i: usize, j: usize)
+        requires { ShareFits self.old i j }
+        ensures { self.new ≡ shared self.old i j }
+    {
+        let d = self.room[j].min(self.left[i]);
+        self.place(i, j, d);
+    }
 }

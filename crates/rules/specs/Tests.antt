@@ -1,14 +1,14 @@
 -- Document 01, "Numbered answers", with document 02, (ii): the tests 1, 2, 3, 4, 13, 5, 6, each over all tasks before the next.
 -- Assumes nothing.
-use Rattle.std.specs.Prelude.{ℕ, ◌+◌, ◌*◌, ◌/◌, ◌^◌, Bool, cond, not, ◌||◌, List, [], ◌∷◌, eqb, ltb, length, get_or}
+use Rattle.std.specs.Prelude.{ℕ, ◌+◌, ◌*◌, ◌/◌, ◌^◌, Bool, cond, not, ◌||◌, List, [], ◌∷◌, eqb, ltb, length, get_or, Result, Ok, Err}
 use Rattle.rules.specs.Sizes.{max_frame, max_cores, max_tasks}
 use Rattle.rules.specs.Sum.{first_at, lowest}
 use Rattle.rules.specs.Sets.{has}
 use Rattle.rules.specs.Piece.{whole_pieces}
 use Rattle.rules.specs.declared.Answer.{Answer}
 use Rattle.rules.specs.declared.Answer.TheVariants.{FrameLength, CoreCount, TaskCount, EmptyMask, Budget, ShortTable, MissingCore}
-use Rattle.rules.specs.declared.MaskTest.{MaskTest}
-use Rattle.rules.specs.declared.MaskTest.TheVariants.{Good, Empty, Missing}
+use Rattle.rules.specs.declared.MaskFault.{MaskFault}
+use Rattle.rules.specs.declared.MaskFault.TheVariants.{Empty, Missing}
 
 -- 1: "F is 0 or above 1,000,000"
 unfoldable pub bad_frame : ℕ → Bool
@@ -35,8 +35,8 @@ unfoldable pub lowest_missing : ℕ → ℕ → ℕ
 lowest_missing m mask = lowest max_cores (λ j. cond (ltb j m) 0 (has mask j))
 
 -- "The mask test itself should promise this": what it says of one mask
-unfoldable pub mask_tested : ℕ → ℕ → MaskTest
-mask_tested m mask = cond (empty_mask mask) Empty (cond (past_cores m mask) (Missing (lowest_missing m mask)) Good)
+unfoldable pub mask_tested : ℕ → ℕ → Result Unit MaskFault
+mask_tested m mask = cond (empty_mask mask) (Err Empty) (cond (past_cores m mask) (Err (Missing (lowest_missing m mask))) (Ok tt))
 
 -- 5: a budget "above F"
 unfoldable pub bad_budget : ℕ → ℕ → Bool

@@ -1,7 +1,7 @@
 -- Laws on a decoded line: the line test, the fields before the tasks, and the tasks' fields.
 -- Assumes nothing.
-use mathlib.Core.Path.{◌≡◌, refl, subst, ◌∙◌, ap}
-use mathlib.Core.Bool.{Bool, true, false, ◌&&◌}
+use mathlib.Core.Path.{◌≡◌, refl, sym, ◌∙◌, ap}
+use mathlib.Core.Bool.{Bool, true, false, cond, ◌&&◌}
 use mathlib.Core.List.{List, ◌++◌, append_assoc}
 use Prim.Native.Nat.{ℕ, zero, suc, ◌+◌, ◌*◌, ◌%◌, ◌^◌, ◌≤◌, ◌<◌}
 use native.Mathlib.Numerals.{add-one, unary_clauses}
@@ -9,10 +9,13 @@ use native.Mathlib.Omega.{arith}
 use lib.Dec.{leb, eqb}
 use lib.ListN.{length, get_or, drop, set, length-append}
 use lib.Seq.{drop-cons, set_at}
-use borrow.Author.Tests.{le-leb, lt-leb, eq-eqb, ne_eqb, eqb-true}
+use borrow.Author.Tests.{lt-leb, eqb-true, leb-true}
 use Rattle.rules.specs.Line.{field, line_frame, line_cores, line_tasks, task_fields, all_digits, well_written}
 use Rattle.fields.specs.Held.{held_field, past_field}
-use Rattle.setline.specs.Decoded.{Tasked}
+use Rattle.std.specs.Bool.{then_some}
+use Rattle.std.specs.Prelude.{Option, Some, None}
+use Rattle.setline.specs.Decoded.{Headed, line_header, has_header, header_of}
+use Rattle.setline.specs.declared.Header.{Header}
 use Rattle.sums.proofs.Both.{and_right}
 use Rattle.fields.proofs.FieldLaws.{held_field_lem, held_past, digits_below}
 
@@ -85,36 +88,31 @@ module _ (l : List ℕ) (p w : ℕ) where
       ∙ set_at (task_fields l p w i) (get_or o i 0) (drop (suc i) o) v i (length_tasks i)
       ∙ simp (add-one, g, append_assoc)
 
-pub tasks_done : (l b₀ b m₀ m : List ℕ) (i n : ℕ) → Tasked l i b₀ b m₀ m → i ≤ n → n ≤ i → Tasked l n b₀ b m₀ m
-tasks_done l b₀ b m₀ m i n t h g = subst (λ (k : ℕ). Tasked l k b₀ b m₀ m) (same h g) t
-  where
-    same : i ≤ n → n ≤ i → i ≡ n
-    same h g = omega arith
-
 -- the line test, one law for each way out
 module _ (l : List ℕ) where
-  pub line_long : 3072 < length l → false ≡ well_written l
-  unfolding well_written
-  line_long h = simp (lt-leb (length l) 3072 h)
+  module _ (r : Bool) (test : r ≡ has_header l) where
+    pub header_long : r ≡ true → 12 ≤ length l
+    unfolding has_header
+    header_long e = leb-true 12 (length l) (and_right (leb (length l) 3072 && all_digits l && eqb (length l % 2) 0) (leb 12 (length l)) (sym test ∙ e))
 
-  module _ (few : length l ≤ 3072) (r : Bool) (digits : r ≡ all_digits l) where
-    pub line_other : r ≡ false → false ≡ well_written l
-    unfolding well_written
-    line_other e = simp (le-leb (length l) 3072 few, ← digits, e)
+    pub no_header : r ≡ false → None ≡ header_of l
+    unfolding has_header header_of well_written
+    no_header e = simp (← test, e)
 
-    module _ (all : r ≡ true) where
-      pub line_odd : (length l % 2 ≡ 0 → ⊥) → false ≡ well_written l
-      unfolding well_written
-      line_odd o = simp (le-leb (length l) 3072 few, ← digits, all, ne_eqb (length l % 2) 0 o)
+    pub line_last : (h : Header) (o : Option Header) → r ≡ true → Headed l h → o ≡ then_some (eqb (length l) (2 * (6 + 6 * h.tasks))) h → o ≡ header_of l
+    unfolding has_header header_of well_written
+    line_last h o t head e = e ∙ simp (← test, t) (of (eqb (length l) (2 * (6 + 6 * h.tasks))) ∙ ap (λ (k : ℕ). cond (eqb (length l) (2 * (6 + 6 * k))) (Some (line_header l)) None) head.tasks)
+      where
+        whole : h ≡ line_header l
+        whole = simp (← head.frame, ← head.cores, ← head.tasks)
 
-      module _ (even : length l % 2 ≡ 0) where
-        pub line_short : length l < 12 → false ≡ well_written l
-        unfolding well_written
-        line_short h = simp (le-leb (length l) 3072 few, ← digits, all, eq-eqb (length l % 2) 0 even, lt-leb 12 (length l) h)
+        of : (b : Bool) → then_some b h ≡ cond b (Some (line_header l)) None
+        of true = ap Some whole
+        of false = refl
 
-        pub line_last : (t : ℕ) → 12 ≤ length l → t ≡ line_tasks l → eqb (length l) (2 * (6 + 6 * t)) ≡ well_written l
-        unfolding well_written
-        line_last t h e = simp (le-leb (length l) 3072 few, ← digits, all, eq-eqb (length l % 2) 0 even, le-leb 12 (length l) h, e)
+pub line_long : (l : List ℕ) → 3072 < length l → false ≡ well_written l
+unfolding well_written
+line_long l h = simp (lt-leb (length l) 3072 h)
 
 -- what a well-written line has
 module _ (l : List ℕ) (e : well_written l ≡ true) where
@@ -123,6 +121,3 @@ module _ (l : List ℕ) (e : well_written l ≡ true) where
   written_length =
       eqb-true (length l) (2 * (6 + 6 * line_tasks l))
       (and_right (leb (length l) 3072 && all_digits l && eqb (length l % 2) 0 && leb 12 (length l)) (eqb (length l) (2 * (6 + 6 * line_tasks l))) e)
-
-  pub written_long : 12 ≤ length l
-  written_long = omega (arith, written_length)

@@ -1,12 +1,13 @@
 // A set's line read: "In: F (4 bytes), m (1), n (1), then per task budget (4) and mask (2)".
 #![tactic(auto)]
 
-ghost use Rattle.std.specs.Prelude.{◌≡◌, ◌+◌, ◌*◌, ◌≤◌, ◌<◌, length};
-ghost use Rattle.rules.specs.Line.{well_written};
-ghost use Rattle.setline.specs.Decoded.{Headed, TaskAt, Tasked};
+ghost use Rattle.std.specs.Prelude.{◌≡◌, leb, ◌&&◌, ◌+◌, ◌*◌, ◌≤◌, ◌<◌, length};
+ghost use Rattle.rules.specs.Sizes.{max_digits};
+ghost use Rattle.rules.specs.Line.{all_digits};
+ghost use Rattle.setline.specs.Decoded.{Headed, TaskAt, Tasked, has_header, header_of};
 ghost use Rattle.setline.specs.ReadSet.{ReadSet};
 
-use fields::{all_digits, start, take};
+use fields::{Reader, all_digits};
 
 // "So is any of more than 3,072 digits."
 const MAX_DIGITS: usize = 3072;
@@ -14,22 +15,23 @@ const MAX_DIGITS: usize = 3072;
 // The digits of the fields before the tasks: "fewer than 12 digits" hold no task count.
 const HEADER_DIGITS: usize = 12;
 
-// The fields before the tasks.
-#[derive(Drop)]
-struct Header {
-    frame: u32,
-    cores: u32,
-    tasks: usize,
+// The numbers of a set before its tasks.
+#[derive(Clone, Copy)]
+pub struct Header {
+    pub frame: u32,
+    pub cores: u32,
+    pub tasks: usize,
 }
 
-// The frame, the cores and the task count, one field after another.
+// The frame, the cores and the task count, one field after another. The casts are proved to lose nothing; a TryFrom would have an error to
+// handle that can't be.
 fn read_header(line: &[u8]) -> Header
     requires { 12 ≤ length line.now }
     ensures { Headed line.now result }
 {
-    let frame = take(start(line, 0), 4);
-    let cores = take(frame, 1);
-    let tasks = take(cores, 1);
+    let frame = Reader::start(line, 0).take(4);
+    let cores = frame.take(1);
+    let tasks = cores.take(1);
     Header {
         frame: frame.value as u32,
         cores: cores.value as u32,
@@ -44,84 +46,67 @@ struct Task {
     mask: u16,
 }
 
-// The task whose fields begin at byte `at`.
+// The task whose fields begin at byte `at`, cast as those of the header.
 fn read_task(line: &[u8], at: usize) -> Task
     requires { 2 * (at + 6) ≤ length line.now }
     ensures { TaskAt line.now at result }
 {
-    let budget = take(start(line, at), 4);
-    let mask = take(budget, 2);
+    let budget = Reader::start(line, at).take(4);
+    let mask = budget.take(2);
     Task {
         budget: budget.value as u32,
         mask: mask.value as u16,
     }
 }
 
-// "A line is not well written if .."; the length is tested first, so that a long line costs no more than a short one.
-fn well_written(line: &[u8]) -> bool
-    ensures { result ≡ well_written line.now }
+// Whether a line has digits alone, and not too many. The length is tested first, so that a long line costs no more than a short one.
+fn is_digits(line: &[u8]) -> bool
+    ensures { result ≡ (leb (length line.now) max_digits && all_digits line.now) }
 {
-    let n = line.len();
-    if MAX_DIGITS < n {
-        return false;
-    }
-    if !all_digits(line) {
-        return false;
-    }
-    if n % 2 != 0 {
-        return false;
-    }
-    if n < HEADER_DIGITS {
-        return false;
-    }
-    let h = read_header(line);
-    n == 2 * (6 + 6 * h.tasks)
+    line.len() <= MAX_DIGITS && all_digits(line)
 }
 
-// The budgets and masks of the `n` tasks, at the front of the two lists.
+// Whether a line has the fields before the tasks.
+#[tactic(auto, unfolding(crate::specs::Decoded::has_header))]
+fn has_header(line: &[u8]) -> bool
+    ensures { result ≡ has_header line.now }
+{
+    is_digits(line) && line.len() % 2 == 0 && HEADER_DIGITS <= line.len()
+}
+
+// The numbers before the tasks of a line that is well written: "A line is not well written if ..".
+fn tested_header(line: &[u8]) -> Option<Header>
+    ensures { result ≡ header_of line.now }
+{
+    if !has_header(line) {
+        return None;
+    }
+    let header = read_header(line);
+    (line.len() == 2 * (6 + 6 * header.tasks)).then_some(header)
+}
+
+// The budgets and masks of the `n` tasks, at the front of two lists: the C interface of the planner has two, and not one of tasks. A range, since
+// one number walks the line and both lists.
 fn read_tasks(line: &[u8], n: usize, budgets: &mut [u32], masks: &mut [u16])
     requires { (n < 256) × (2 * (6 + 6 * n) ≤ length line.now) × (n ≤ length budgets.old) × (n ≤ length masks.old) }
     ensures { Tasked line.now n budgets.old budgets.new masks.old masks.new }
 {
-    let mut i = 0;
-    while i < n {
+    for i in 0..n {
         let task = read_task(line, 6 + 6 * i);
         budgets[i] = task.budget;
         masks[i] = task.mask;
-        i += 1;
     }
 }
 
-// The numbers of a set, whose budgets and masks stand at the front of two lists; or the line is refused.
-#[derive(Clone, Copy)]
-pub enum SetRead {
-    Refused,
-    Set {
-        frame: u32,
-        cores: u32,
-        tasks: usize,
-    },
-}
-
-// A line that is not well written is refused, and so is one whose tasks find no room: the two lists keep what they held.
-pub fn read_set(line: &[u8], budgets: &mut [u32], masks: &mut [u16]) -> SetRead
+// The numbers before the tasks, whose budgets and masks then stand at the front of the two lists. A line that is not well written is refused,
+// and so is one whose tasks find no room: the two lists keep what they held.
+pub fn read_set(line: &[u8], budgets: &mut [u32], masks: &mut [u16]) -> Option<Header>
     ensures { ReadSet line.now budgets.old masks.old result budgets.new masks.new }
 {
-    if !well_written(line) {
-        return SetRead::Refused;
+    let header = tested_header(line)?;
+    if budgets.len() < header.tasks || masks.len() < header.tasks {
+        return None;
     }
-    let h = read_header(line);
-    let tasks = h.tasks;
-    if budgets.len() < tasks {
-        return SetRead::Refused;
-    }
-    if masks.len() < tasks {
-        return SetRead::Refused;
-    }
-    read_tasks(line, tasks, budgets, masks);
-    SetRead::Set {
-        frame: h.frame,
-        cores: h.cores,
-        tasks: tasks,
-    }
+    read_tasks(line, header.tasks, budgets, masks);
+    Some(header)
 }

@@ -2,46 +2,25 @@
 // member and adds nothing.
 #![tactic(auto)]
 
-ghost use Rattle.std.specs.Prelude.{◌≡◌, ◌<◌};
+mod cores;
+mod tasks;
+
+ghost use Rattle.std.specs.Prelude.{◌≡◌, ℕ, cond};
 ghost use Rattle.rules.specs.Sets.{has};
 ghost use Rattle.sets.specs.Joined.{joined};
 
-// 1 if the core is in the set, else 0.
-pub fn core_in(cores: u16, j: usize) -> u16
-    ensures { (result ≡ has cores j) × (result < 2) }
-{
-    if 16 <= j {
-        return 0;
-    }
-    (cores >> j) & 1
-}
+// A set of numbers below a width, which is one number. Two types hold one: no shift is generic over both, and an impl by a macro of our own is
+// not accepted.
+pub trait Set: Copy {
+    ghost width: { ℕ };
 
-// 1 if the task is in the set, else 0.
-pub fn task_in(tasks: u64, i: usize) -> u64
-    ensures { (result ≡ has tasks i) × (result < 2) }
-{
-    if 64 <= i {
-        return 0;
-    }
-    (tasks >> i) & 1
-}
+    ghost bits: { Self → ℕ };
 
-// The set with one core more.
-pub fn with_core(cores: u16, j: usize) -> u16
-    ensures { result ≡ joined 16 cores j }
-{
-    if 16 <= j {
-        return cores;
-    }
-    cores | (1 << j)
-}
+    // Whether i is a member.
+    fn has(self, i: usize) -> bool
+        ensures { cond result 1 0 ≡ has (bits self) i };
 
-// The set with one task more.
-pub fn with_task(tasks: u64, i: usize) -> u64
-    ensures { result ≡ joined 64 tasks i }
-{
-    if 64 <= i {
-        return tasks;
-    }
-    tasks | (1 << i)
+    // The set with i as a member.
+    fn with(self, i: usize) -> Self
+        ensures { bits result ≡ joined width (bits self) i };
 }

@@ -1,16 +1,17 @@
 -- Laws on a text that is taken line by line, for any answers A: what a program's step over a chunk shows by its own answer's contract.
 -- Assumes nothing.
 use mathlib.Core.Path.{◌≡◌, refl, sym, subst, ◌∙◌, ap}
-use mathlib.Core.Bool.{Bool, true, false}
 use mathlib.Core.List.{List, [], ◌∷◌, ◌++◌, append_assoc, append-nil}
 use Prim.Native.Nat.{ℕ, zero, suc, ◌+◌, ◌-◌, ◌*◌, ◌≤◌, ◌<◌, min, max}
 use native.Mathlib.Decide.{dec_lt, ℕ_discrete}
 use native.Mathlib.Numerals.{add-one}
 use native.Mathlib.Omega.{arith}
-use lib.ListN.{length, get_or, take, drop, set, length-append, length-set, length-take, length-drop, take-append-drop}
-use lib.Seq.{take-suc-set, take_all, take-append-le, drop-append-le, drop-drop, drop-cons, set_at, set_out, take-add, take_at, drop_at, take-nil}
+use lib.ListN.{length, get_or, take, drop, set, length-append, length-set, length-take, length-drop, take-append-drop, drop_of_length-le}
+use lib.Seq.{take-suc-set, take_all, take-append-le, drop-append-le, drop-drop, drop-cons, set_at, set_out, take-add, take_at, drop_at, take-nil, take-append-add, drop-append-add}
 use Rattle.stream.specs.Taking.{kept_count, taking}
 use Rattle.stream.specs.Lines.{kept, ended, Lines, none, more, Holds, Written, Answered, FedLine, Took}
+use Rattle.stream.specs.declared.line.Line.{Line}
+use Rattle.stream.specs.declared.line.Line.TheVariants.{Whole, Begun}
 use Rattle.stream.specs.declared.line.Taken.{Taken}
 use Rattle.stream.proofs.Chunks.{lines_join}
 use Rattle.stream.proofs.TakeLaws.{kept_room, kept_full, taking_feed, taking_byte, taking_none}
@@ -39,11 +40,16 @@ holds_byte buffer len b l k =
           }))
     ]
 
+-- how many bytes of a line are kept
+abbrev pub kept_of : Line → ℕ
+kept_of (Whole n) = n
+kept_of (Begun n) = n
+
 -- how far a line is taken out of the text t, and how many of its bytes are kept
 pub record TakenFar (t : List ℕ) (at : ℕ) (line : List ℕ) (len : ℕ) (w : Taken × List ℕ) : Type 0 where
   pub some : at + min 1 (length t) ≤ w.0.at
   pub within : w.0.at ≤ at + length t
-  pub few : w.0.len ≤ max len (length line)
+  pub few : kept_of w.0.line ≤ max len (length line)
   pub long : length w.1 ≡ length line
 
 pub taken_far : (t : List ℕ) (at : ℕ) (line : List ℕ) (len : ℕ) → TakenFar t at line len (taking t at line len)
@@ -65,17 +71,17 @@ taken_far (b ∷ t) at line len =
     further f = record { some = omega (arith, f.some); within = omega (arith, f.within); few = omega (arith, f.few, grown, length-set line len b); long = f.long ∙ length-set line len b }
 
 -- the line feed that ends a line, where it came
-abbrev pub feed_of : Bool → List ℕ
-feed_of true = 10 ∷ []
-feed_of false = []
+abbrev pub feed_of : Line → List ℕ
+feed_of (Whole n) = 10 ∷ []
+feed_of (Begun n) = []
 
 -- what of the text t is taken after the begun line k: bytes of the line, which the buffer then holds, and the line feed
 pub record TakenLine (A : List ℕ → List ℕ → Type 0) (k t : List ℕ) (at : ℕ) (w : Taken × List ℕ) : Type 0 where
   pub bytes : List ℕ
   pub begun : List ℕ
   pub lines : Lines A k bytes [] begun
-  pub holds : Holds w.1 w.0.len begun
-  pub text : take (w.0.at - at) t ≡ bytes ++ feed_of w.0.whole
+  pub holds : Holds w.1 (kept_of w.0.line) begun
+  pub text : take (w.0.at - at) t ≡ bytes ++ feed_of w.0.line
 
 pub taken_line : {A : List ℕ → List ℕ → Type 0} (t : List ℕ) (at : ℕ) (line : List ℕ) (len : ℕ) (k : List ℕ) → Holds line len k → TakenLine A k t at (taking t at line len)
 taken_line {A} [] at line len k h = subst (TakenLine A k [] at) (sym (taking_none at line len)) (record { bytes = []; begun = k; lines = none; holds = h; text = take-nil (at - at) })
@@ -119,6 +125,32 @@ written_after {x} {y} {o₀} {o₁} {o₂} {u₀} {u₁} {u₂} p q =
   where
     past : (o : List ℕ) → drop u₂ o ≡ drop (length y) (drop u₁ o)
     past o = ap (λ (n : ℕ). drop n o) q.end ∙ sym (drop-drop (length y) u₁ o)
+
+-- the same where the rest of the output was lent
+written_rest : {x : List ℕ} (out part : List ℕ) (used v : ℕ) → used ≤ length out → Written x (take (length out - used) (drop used out)) 0 part v
+    → Written x out used (take used out ++ (part ++ drop (length out - used) (drop used out))) (used + v)
+written_rest {x} out part used v h w =
+    record {
+      front =
+          ap (λ (z : List ℕ). take (used + v) (take used out ++ z)) lent
+          ∙ ap (λ (n : ℕ). take (n + v) (take used out ++ part)) (sym (long h))
+          ∙ take-append-add (take used out) part v
+          ∙ ap (λ (z : List ℕ). take used out ++ z) w.front;
+      rest =
+          ap (λ (z : List ℕ). drop (used + v) (take used out ++ z)) lent
+          ∙ ap (λ (n : ℕ). drop (n + v) (take used out ++ part)) (sym (long h))
+          ∙ drop-append-add (take used out) part v
+          ∙ w.rest
+          ∙ ap (drop v) (take_all (length out - used) (drop used out) (simp length-drop (omega arith)))
+          ∙ drop-drop v used out;
+      end = omega (arith, w.end);
+    }
+  where
+    long : used ≤ length out → length (take used out) ≡ used
+    long h = simp length-take (omega arith)
+
+    lent : part ++ drop (length out - used) (drop used out) ≡ part
+    lent = ap (λ (z : List ℕ). part ++ z) (drop_of_length-le (drop used out) (simp length-drop (omega arith))) ∙ append-nil part
 
 -- an answer line at the front of the k bytes of the output o that were lent from the place p on, and a line feed after it
 module _ (o : List ℕ) (p k r : ℕ) (line y : List ℕ) (front : y ≡ line ++ drop (length line) (take k (drop p o))) (end : r ≡ length line) (fits : length line ≤ k) (room : p + k < length o) where
@@ -170,11 +202,14 @@ module _ (chunk : List ℕ) (from : ℕ) (line : List ℕ) (len : ℕ) (r : Take
   taken : {A : List ℕ → List ℕ → Type 0} (l : List ℕ) → Holds line len l → TakenLine A l (drop from chunk) from (r, line')
   taken {A} l h = subst (TakenLine A l (drop from chunk) from) (sym e) (taken_line (drop from chunk) from line len l h)
 
-  pub took_few : r.len ≤ length line'
-  took_few = omega (arith, far.few, far.long)
+  kept_few : kept_of r.line ≤ length line
+  kept_few = omega (arith, far.few)
 
-  pub took_kept : r.len ≤ length line
-  took_kept = omega (arith, far.few)
+  pub took_few : (n : ℕ) → r.line ≡ Whole n → n ≤ length line'
+  took_few n e = let f : kept_of (Whole n) ≤ length line = subst (λ (x : Line). kept_of x ≤ length line) e kept_few in omega (arith, f, far.long)
+
+  pub took_kept : (n : ℕ) → r.line ≡ Begun n → n ≤ length line
+  took_kept n e = subst (λ (x : Line). kept_of x ≤ length line) e kept_few
 
   pub took_some : from + 1 ≤ r.at
   took_some = omega (arith, far.some, length-drop from chunk)
@@ -182,34 +217,34 @@ module _ (chunk : List ℕ) (from : ℕ) (line : List ℕ) (len : ℕ) (r : Take
   pub took_within : r.at ≤ length chunk
   took_within = omega (arith, far.within, length-drop from chunk)
 
-  pub took_whole : {A : List ℕ → List ℕ → Type 0} (room : ℕ) (out out' : List ℕ) (used end : ℕ) → r.whole ≡ true → Answered A room line' r.len out used out' end → Took A room chunk from line len out used line' out' (record { taken = r.at; len = 0; used = end })
-  took_whole {A} room out out' used end whole a =
+  pub took_whole : {A : List ℕ → List ℕ → Type 0} (room : ℕ) (out out' : List ℕ) (used end n : ℕ) → r.line ≡ Whole n → Answered A room line' n out used out' end → Took A room chunk from line len out used line' out' (record { taken = r.at; len = 0; used = end })
+  took_whole {A} room out out' used end n whole a =
       record { few = omega arith; within = a.few; not_before = a.not_before; taken = took_within; some = took_some; took = λ l h. fed (taken l h) }
     where
       fed : {l : List ℕ} → TakenLine A l (drop from chunk) from (r, line') → FedLine A l (take (r.at - from) (drop from chunk)) out used line' out' 0 end
       fed {l} q =
-          let b = a.answered q.begun q.holds in
+          let b = a.answered q.begun (subst (λ (x : Line). Holds line' (kept_of x) q.begun) whole q.holds) in
           record {
             answers = b.line ++ (10 ∷ []);
             begun = [];
             lines =
-                subst (λ (x : List ℕ). Lines A l x (b.line ++ (10 ∷ [])) []) (sym (q.text ∙ ap (λ (f : Bool). q.bytes ++ feed_of f) whole))
+                subst (λ (x : List ℕ). Lines A l x (b.line ++ (10 ∷ [])) []) (sym (q.text ∙ ap (λ (x : Line). q.bytes ++ feed_of x) whole))
                 (more 10 q.lines (ended b.line refl b.answer));
             holds = holds_none line';
             written = b.written;
           }
 
-  pub took_part : {A : List ℕ → List ℕ → Type 0} (room : ℕ) (out : List ℕ) (used : ℕ) → r.whole ≡ false → Took A room chunk from line len out used line' out (record { taken = r.at; len = r.len; used = used })
-  took_part {A} room out used part =
-      record { few = took_kept; within = omega arith; not_before = omega arith; taken = took_within; some = took_some; took = λ l h. fed (taken l h) }
+  pub took_part : {A : List ℕ → List ℕ → Type 0} (room : ℕ) (out : List ℕ) (used n : ℕ) → r.line ≡ Begun n → Took A room chunk from line len out used line' out (record { taken = r.at; len = n; used = used })
+  took_part {A} room out used n part =
+      record { few = took_kept n part; within = omega arith; not_before = omega arith; taken = took_within; some = took_some; took = λ l h. fed (taken l h) }
     where
-      fed : {l : List ℕ} → TakenLine A l (drop from chunk) from (r, line') → FedLine A l (take (r.at - from) (drop from chunk)) out used line' out r.len used
+      fed : {l : List ℕ} → TakenLine A l (drop from chunk) from (r, line') → FedLine A l (take (r.at - from) (drop from chunk)) out used line' out n used
       fed {l} q =
           record {
             answers = [];
             begun = q.begun;
-            lines = subst (λ (x : List ℕ). Lines A l x [] q.begun) (sym (q.text ∙ ap (λ (f : Bool). q.bytes ++ feed_of f) part ∙ append-nil q.bytes)) q.lines;
-            holds = q.holds;
+            lines = subst (λ (x : List ℕ). Lines A l x [] q.begun) (sym (q.text ∙ ap (λ (x : Line). q.bytes ++ feed_of x) part ∙ append-nil q.bytes)) q.lines;
+            holds = subst (λ (x : Line). Holds line' (kept_of x) q.begun) part q.holds;
             written = written_none out used;
           }
 
@@ -233,6 +268,25 @@ fed_more {A} l chunk out buffer₁ out₁ buffer₂ out₂ used i j len₁ used�
   where
     whole : i ≤ j → i + (j - i) ≡ j
     whole h = omega arith
+
+-- the rest of a chunk was fed, and its answers stand in the rest of the output
+pub fed_rest : {A : List ℕ → List ℕ → Type 0} (k chunk buffer out part : List ℕ) (i t used v len : ℕ) → used ≤ length out
+    → FedLine A k (take (t - 0) (drop 0 (take (length chunk - i) (drop i chunk)))) (take (length out - used) (drop used out)) 0 buffer part len v
+    → FedLine A k (take (i + t - i) (drop i chunk)) out used buffer (take used out ++ (part ++ drop (length out - used) (drop used out))) len (used + v)
+fed_rest {A} k chunk buffer out part i t used v len h f =
+    record {
+      answers = f.answers;
+      begun = f.begun;
+      lines =
+          subst (λ (x : List ℕ). Lines A k x f.answers f.begun)
+          (ap (take (t - 0)) (take_all (length chunk - i) (drop i chunk) (simp length-drop (omega arith))) ∙ ap (λ (n : ℕ). take n (drop i chunk)) same)
+          f.lines;
+      holds = f.holds;
+      written = written_rest out part used v h f.written;
+    }
+  where
+    same : t - 0 ≡ i + t - i
+    same = omega arith
 
 -- the loop over a chunk: its bytes before the place `at` were taken
 pub record Feeding (A : List ℕ → List ℕ → Type 0) (room : ℕ) (chunk line₀ : List ℕ) (len : ℕ) (out₀ : List ℕ) (used : ℕ) (line out : List ℕ) (at kept filled : ℕ) : Type 0 where

@@ -37,14 +37,8 @@ module _ (s : Source) (was input : List ℕ) (r : Source) where
   read_handed (failed e) = rw e (omega arith, omega arith, omega arith)
   read_handed (stopped h e) = rw e (omega arith, omega arith, omega arith)
 
-  handed_read : (s.at < s.end → s.end ≤ length was → ⊥) → Read s input r → Handed s was input r
+  pub handed_read : (s.at < s.end → s.end ≤ length was → ⊥) → Read s input r → Handed s was input r
   handed_read h q = let b = read_handed q in record { order = b.0; within = b.1; no_more = b.2; next = read h q }
-
-  pub none_left : s.end ≤ s.at → Read s input r → Handed s was input r
-  none_left h q = handed_read (λ f g. omega arith) q
-
-  pub none_there : length was < s.end → Read s input r → Handed s was input r
-  none_there h q = handed_read (λ f g. omega arith) q
 
 pub some_left : (s : Source) (was : List ℕ) → s.at < s.end → s.end ≤ length was → Handed s was was s
 some_left s was h g = record { order = omega arith; within = g; no_more = omega arith; next = rest h g refl refl }

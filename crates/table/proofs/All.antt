@@ -1,9 +1,9 @@
 -- Laws on a test at every place below a number, and the frame table's definition as such tests.
 -- Assumes nothing.
 use mathlib.Core.Path.{◌≡◌, refl, sym, ◌∙◌, ap, ap₂}
-use mathlib.Core.Bool.{Bool, true, false, ◌&&◌, and-false, and-true, and_assoc}
+use mathlib.Core.Bool.{Bool, true, false, ◌&&◌, and-true, and_assoc}
 use mathlib.Core.List.{List, [], ◌∷◌, ◌++◌}
-use Prim.Native.Nat.{ℕ, zero, suc, ◌+◌, ◌%◌, ◌<◌}
+use Prim.Native.Nat.{ℕ, zero, suc, ◌%◌, ◌<◌}
 use native.Mathlib.Nat.{not-suc-le-zero}
 use native.Mathlib.Decide.{ℕ_discrete}
 use native.Mathlib.Numerals.{add-one}
@@ -12,6 +12,10 @@ use lib.Dec.{eqb, leb}
 use lib.ListN.{length}
 use Rattle.rules.specs.Piece.{Piece, piece_at, first_pieces, whole_pieces}
 use Rattle.rules.specs.FrameTable.{every, every_two, frame_pieces, frame_table}
+use Rattle.std.specs.List.{list_all, range_with_len}
+use Rattle.std.specs.Prelude.{map}
+use Rattle.std.proofs.lemmas.List.Folds.{list_all-map, list_all-append}
+use Rattle.std.proofs.lemmas.List.FromFn.{map-range_with_len_more}
 use Rattle.sums.proofs.Both.{and_left, and_right, and_both}
 use Rattle.rules.proofs.Numbers.{length_first}
 use Rattle.table.specs.All.{all_to}
@@ -39,24 +43,14 @@ unfolding all_to
 true_all zero f h = refl
 true_all (suc n) f h = and_both (true_all n f (λ k l. h k (omega arith))) (h n (omega arith))
 
--- the loop's three laws: none passed, one more passes, one fails
-module _ (f : ℕ → Bool) where
-  pub all_none : all_to 0 f ≡ true
-  unfolding all_to
-  all_none = refl
-
-  pub all_more : (i : ℕ) (t : Bool) → all_to i f ≡ true → t ≡ f i → t ≡ true → all_to (i + 1) f ≡ true
-  unfolding all_to
-  all_more i t e g y = rw add-one (and_both e (sym g ∙ y))
-
-  pub all_fail : (i n : ℕ) (t : Bool) → t ≡ f i → t ≡ false → i < n → all_to n f ≡ false
-  unfolding all_to
-  all_fail i zero t g y h = absurd (not-suc-le-zero h)
-  all_fail i (suc n) t g y h =
-      elim (ℕ_discrete i n) [
-        | yes d ↦ rw (ap f (sym d) ∙ sym g ∙ y) (and-false (all_to n f))
-        | no d ↦ rw (all_fail i n t g y (omega arith))
-      ]
+-- the library's test over a range is such a test
+pub all_range : (n : ℕ) (f : ℕ → Bool) → list_all f (range_with_len 0 n) ≡ all_to n f
+unfolding all_to
+all_range zero f = refl
+all_range (suc n) f =
+    sym (list_all-map (λ (b : Bool). b) f (range_with_len 0 (suc n))) ∙ ap (list_all (λ (b : Bool). b)) (rw add-one at (map-range_with_len_more f 0 n n (omega arith)))
+    ∙ list_all-append (λ (b : Bool). b) (map f (range_with_len 0 n)) (f n ∷ [])
+    ∙ ap₂ ◌&&◌ (list_all-map (λ (b : Bool). b) f (range_with_len 0 n) ∙ all_range n f) (and-true (f n))
 
 pub all_and : (n : ℕ) (f g : ℕ → Bool) → all_to n (λ k. f k && g k) ≡ (all_to n f && all_to n g)
 all_and n f g =

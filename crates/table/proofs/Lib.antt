@@ -1,6 +1,5 @@
-pub mod Answers
 pub mod All
-pub mod Check
 pub mod Reading
 pub mod Accepted
 pub mod Unique
+pub mod Tested

@@ -1,15 +1,17 @@
 -- What a frame table is, read as facts about its pieces.
 -- Assumes nothing.
-use mathlib.Core.Path.{◌≡◌, sym, ◌∙◌}
+use mathlib.Core.Path.{◌≡◌, sym, ◌∙◌, ap}
 use mathlib.Core.Bool.{Bool, true, ◌&&◌}
 use mathlib.Core.List.{List}
 use Prim.Native.Nat.{ℕ, ◌%◌, ◌≤◌, ◌<◌}
 use lib.Dec.{eqb, leb}
 use lib.ListN.{length}
-use borrow.Author.Tests.{leb-true, eqb-true}
+use borrow.Author.Tests.{leb-true, eqb-true, lt-ltb}
+use Rattle.std.specs.Prelude.{Option, Some, unwrap_or}
 use Rattle.rules.specs.Piece.{piece_at, whole_pieces}
 use Rattle.rules.specs.FrameTable.{sound, ordered, core_apart, task_apart, frame_table}
-use Rattle.table.specs.Read.{together, follows, passes}
+use Rattle.table.specs.Read.{stretch_at, stretch_get, together, follows, passes}
+use Rattle.table.specs.declared.Stretch.{Stretch}
 use Rattle.sums.proofs.Both.{and_left, and_right}
 use Rattle.stretches.proofs.Readings.{Sound, Disjoint, InOrder, sound_reads, ordered_reads, core_apart_reads, task_apart_reads}
 use Rattle.table.proofs.All.{all_true, frame_table_passes}
@@ -56,3 +58,13 @@ module _ (F m : ℕ) (l : List ℕ) where
 
       two : (j k : ℕ) → j < k → k < whole_pieces l → (ordered (piece_at l j) (piece_at l k) && apart j k) ≡ true
       two j k g h = all_true k (λ i. ordered (piece_at l i) (piece_at l k) && apart i k) (and_right (sound F m (piece_at l k)) (follows l k) (at k h)) j g
+
+-- a piece that was read, of a list that has so many
+pub stretch_some : (l : List ℕ) (k : ℕ) (o : Option Stretch) → o ≡ stretch_get l k → k < whole_pieces l → o ≡ Some (stretch_at l k)
+stretch_some l k o e h = e ∙ some
+  where
+    some : stretch_get l k ≡ Some (stretch_at l k)
+    some = rw (lt-ltb _ _ h)
+
+pub stretch_got : (l : List ℕ) (k : ℕ) (o : Option Stretch) (p : Stretch) → o ≡ stretch_get l k → o ≡ Some p → k < whole_pieces l → p ≡ stretch_at l k
+stretch_got l k o p e f h = ap (λ (q : Option Stretch). unwrap_or q p) (sym f ∙ stretch_some l k o e h)

@@ -1,2 +1,3 @@
 pub mod All
 pub mod Read
+pub mod Tested

@@ -1,13 +1,11 @@
--- The laws by which a loop seeks the first place where a test passes.
+-- Laws on the first place where a test passes.
 -- Assumes nothing.
 use mathlib.Core.Path.{◌≡◌, refl, ◌∙◌, ap}
 use mathlib.Core.Bool.{Bool, true, false}
 use mathlib.Core.List.{List, [], ◌∷◌}
-use Prim.Native.Nat.{ℕ, zero, suc, ◌+◌, ◌≤◌, ◌<◌}
-use native.Mathlib.Numerals.{add-one}
+use Prim.Native.Nat.{ℕ, zero, suc, ◌≤◌, ◌<◌}
 use native.Mathlib.Omega.{arith}
-use lib.ListN.{length, get_or, drop, drop_of_length-le}
-use lib.Seq.{drop-cons}
+use lib.ListN.{length, get_or}
 use Rattle.rules.specs.Sum.{first_at}
 
 module _ (p : ℕ → Bool) where
@@ -22,24 +20,6 @@ module _ (p : ℕ → Bool) where
   first_nil : first_at p [] ≡ 0
   unfolding first_at
   first_nil = refl
-
-  -- nothing before i passes
-  abbrev pub NoneBefore : List ℕ → ℕ → Type 0
-  NoneBefore s i = first_at p s ≡ i + first_at p (drop i s)
-
-  pub first_begins : (s : List ℕ) → NoneBefore s 0
-  first_begins s = omega arith
-
-  pub first_hit : (s : List ℕ) (i : ℕ) → NoneBefore s i → i < length s → p (get_or s i 0) ≡ true → i ≡ first_at p s
-  first_hit s i h l e = omega (arith, h, ap (first_at p) (drop-cons s i 0 l) ∙ first_cons_hit (get_or s i 0) (drop (suc i) s) e)
-
-  pub first_more : (s : List ℕ) (i : ℕ) → NoneBefore s i → i < length s → p (get_or s i 0) ≡ false → NoneBefore s (i + 1)
-  first_more s i h l e =
-      rw (add-one i)
-      (omega (arith, h, ap (first_at p) (drop-cons s i 0 l) ∙ first_cons_miss (get_or s i 0) (drop (suc i) s) e))
-
-  pub first_end : (s : List ℕ) (i : ℕ) → NoneBefore s i → length s ≤ i → i ≡ first_at p s
-  first_end s i h l = omega (arith, h, ap (first_at p) (drop_of_length-le s l) ∙ first_nil)
 
 -- the first place is one where the test passes, nothing before it does, and no other place is so
 module _ (p : ℕ → Bool) where

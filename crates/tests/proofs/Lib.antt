@@ -4,5 +4,4 @@ pub mod MaskFaults
 pub mod MaskLaws
 pub mod PassedLaws
 pub mod ScanLaws
-pub mod TestLaws
 pub mod Unique

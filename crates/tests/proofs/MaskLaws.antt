@@ -1,54 +1,50 @@
--- Laws on the test of one mask: how its lowest missing core is found, and what the test says.
+-- Laws on the test of one mask: how its lowest missing core is found.
 -- Assumes nothing.
 use mathlib.Core.Path.{◌≡◌, refl, sym, ◌∙◌, ap}
 use mathlib.Core.Bool.{cond}
-use Prim.Native.Nat.{ℕ, ◌+◌, ◌/◌, ◌^◌, ◌≤◌, ◌<◌}
+use Prim.Native.Nat.{ℕ, ◌+◌, ◌-◌, ◌/◌, ◌%◌, ◌^◌, ◌<◌}
+use native.Mathlib.Decide.{dec_lt}
 use native.Mathlib.Omega.{arith}
-use borrow.Author.Tests.{eq-eqb, ne_eqb, lt-ltb, le-ltb}
-use lib.Bits.{bit_and}
+use borrow.Author.Tests.{lt-ltb, le-ltb}
+use lib.Count.{count_trailing_zeros}
 use lib.Dec.{ltb}
-use Rattle.rules.specs.Sum.{lowest}
+use lib.Pow.{shr-shr}
+use mir.Syntax.{w32}
+use Rattle.std.proofs.lemmas.Nat.Bits.{bit_at-trailing_zeros}
 use Rattle.rules.specs.Sets.{has}
-use Rattle.rules.specs.Tests.{empty_mask, past_cores, lowest_missing, mask_tested}
-use Rattle.rules.specs.declared.MaskTest.TheVariants.{Good, Empty, Missing}
-use Rattle.sums.proofs.Sets.{bit_has}
-use Rattle.sums.proofs.Lowest.{lowest_past, lowest_more, lowest_found, lowest_ended}
+use Rattle.rules.specs.Tests.{lowest_missing}
+use Rattle.sums.proofs.Sets.{has_below}
+use Rattle.sums.proofs.Lowest.{lowest_past, lowest_found}
 
 -- 1 for a missing core of the mask, else 0: its lowest is sought
 abbrev pub missing : ℕ → ℕ → ℕ → ℕ
 missing m mask j = cond (ltb j m) 0 (has mask j)
 
 module _ (m mask : ℕ) where
-  -- no missing core is below j
-  abbrev pub NoneBelow : ℕ → Type 0
-  NoneBelow j = lowest j (missing m mask) ≡ j
+  has_past : (k : ℕ) → has mask (m + k) ≡ mask / 2 ^ m / 2 ^ k % 2
+  unfolding has
+  has_past k = ap (λ (n : ℕ). n % 2) (sym (shr-shr mask m k))
 
-  pub core_begins : NoneBelow m
-  core_begins = lowest_past (missing m mask) m (λ i l. rw (lt-ltb i m l) refl)
+  module _ (k : ℕ) (here : mask / 2 ^ m / 2 ^ k % 2 ≡ 1) (before : (i : ℕ) → i < k → mask / 2 ^ m / 2 ^ i % 2 ≡ 0) where
+    found : missing m mask (m + k) ≡ 1
+    found = rw (le-ltb (m + k) m (omega arith)) (has_past k ∙ here)
 
-  at_or_above : (j : ℕ) → m ≤ j → missing m mask j ≡ bit_and (mask / 2 ^ j) 1
-  at_or_above j h = rw (le-ltb j m h) (sym (bit_has mask j).0)
+    below : (j : ℕ) → j < m + k → missing m mask j ≡ 0
+    below j l =
+        elim (dec_lt j m) [
+          | yes s ↦ rw (lt-ltb j m s) refl
+          | no g ↦ rw (le-ltb j m (omega arith)) (ap (has mask) (split g) ∙ has_past (j - m) ∙ before (j - m) (omega arith))
+        ]
+      where
+        split : (j < m → ⊥) → j ≡ m + (j - m)
+        split g = omega arith
 
-  pub core_hit : (j : ℕ) → m ≤ j → j < 16 → NoneBelow j → bit_and (mask / 2 ^ j) 1 ≡ 1 → j ≡ lowest_missing m mask
-  unfolding lowest_missing
-  core_hit j h l e b = lowest_found (missing m mask) 16 j l e (omega (arith, at_or_above j h, b))
+    lowest_here : mask < 2 ^ 16 → m + k ≡ lowest_missing m mask
+    unfolding lowest_missing
+    lowest_here wide =
+        lowest_found (missing m mask) 16 (m + k) (has_below 16 wide (has_past k ∙ here)) (lowest_past (missing m mask) (m + k) below) (omega (arith, found))
 
-  pub core_more : (j : ℕ) → m ≤ j → NoneBelow j → (bit_and (mask / 2 ^ j) 1 ≡ 1 → ⊥) → NoneBelow (j + 1)
-  core_more j h e n = lowest_more (missing m mask) j e (at_or_above j h ∙ omega (arith, bit_has mask j, n))
-
-  pub core_ended : (j : ℕ) → j ≤ 16 → 16 ≤ j → NoneBelow j → j ≡ lowest_missing m mask
-  unfolding lowest_missing
-  core_ended j a b e = lowest_ended (missing m mask) 16 j a b e
-
-  pub mask_empty : mask ≡ 0 → Empty ≡ mask_tested m mask
-  unfolding mask_tested empty_mask
-  mask_empty e = rw (eq-eqb mask 0 e) refl
-
-  module _ (n : mask ≡ 0 → ⊥) where
-    pub mask_good : mask / 2 ^ m ≡ 0 → Good ≡ mask_tested m mask
-    unfolding mask_tested empty_mask past_cores
-    mask_good e = rw (ne_eqb mask 0 n, eq-eqb (mask / 2 ^ m) 0 e) refl
-
-    pub mask_missing : (mask / 2 ^ m ≡ 0 → ⊥) → (j : ℕ) → j ≡ lowest_missing m mask → Missing j ≡ mask_tested m mask
-    unfolding mask_tested empty_mask past_cores
-    mask_missing p j e = rw (ne_eqb mask 0 n, ne_eqb (mask / 2 ^ m) 0 p) (ap Missing e)
+-- what is left after a shift by m ends in as many zeros as the lowest missing core is above m
+pub lowest_by_zeros : (m mask : ℕ) → mask < 2 ^ 16 → (mask / 2 ^ m ≡ 0 → ⊥) → m + count_trailing_zeros 32 (mask / 2 ^ m) ≡ lowest_missing m mask
+lowest_by_zeros m mask wide some =
+    let z = bit_at-trailing_zeros w32 (mask / 2 ^ m) (omega arith) (omega arith) in lowest_here m mask (count_trailing_zeros 32 (mask / 2 ^ m)) z.1 z.2 wide

@@ -103,8 +103,8 @@ module _ (F m : ℕ) (budgets masks : List ℕ) (e : tested_set F m budgets mask
       }
 
 -- what the test 6 asks
-pub passed_sizes : (F m : ℕ) (budgets masks : List ℕ) → passed ≡ tested_set F m budgets masks → (m ≤ 16) × (length budgets ≤ 64)
-passed_sizes F m budgets masks e = let g = passed_set F m budgets masks (sym e) in (g.cores, g.tasks)
+pub passed_tasks : (F m : ℕ) (budgets masks : List ℕ) → passed ≡ tested_set F m budgets masks → length budgets ≤ 64
+passed_tasks F m budgets masks e = (passed_set F m budgets masks (sym e)).tasks
 
 -- where all tests are passed, those of the set are, and there is room
 room_passed : (b : Bool) (t : Tested) → then_room b t ≡ passed → (t ≡ passed) × (b ≡ false)

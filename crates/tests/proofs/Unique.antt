@@ -1,28 +1,31 @@
--- Any two verdicts that the contracts of `test_set` and `test_plan` allow are equal.
+-- Any two answers that the contracts of `test_rack`, `test_set` and `test_plan` allow are equal.
 -- Assumes nothing.
 use mathlib.Core.Path.{◌≡◌, refl, sym, ◌∙◌, ap}
 use mathlib.Core.List.{List}
 use Prim.Native.Nat.{ℕ}
+use Rattle.std.specs.Prelude.{Result, Ok, Err}
 use Rattle.rules.specs.Tests.{Tested, refused, passed, tested_set, tested}
-use Rattle.tests.specs.Verdict.{verdict_of}
-use Rattle.tests.specs.declared.Verdict.{Verdict}
-use Rattle.tests.specs.declared.Verdict.TheVariants.{Refused, Passed}
+use Rattle.rules.specs.declared.Answer.{Answer}
+use Rattle.tests.specs.Verdict.{verdict_of, tested_rack}
 
--- the verdict that says what the tests of the rules say
-verdict_for : Tested → Verdict
-verdict_for (refused a) = Refused a
-verdict_for passed = Passed
+-- the answer that says what the tests of the rules say
+answer_for : Tested → Result Unit Answer
+answer_for (refused a) = Err a
+answer_for passed = Ok tt
 
-back : (v : Verdict) → verdict_for (verdict_of v) ≡ v
-unfolding verdict_for
-back (Refused a) = refl
-back Passed = refl
+back : (r : Result Unit Answer) → answer_for (verdict_of r) ≡ r
+unfolding answer_for
+back (Err a) = refl
+back (Ok tt) = refl
 
-same_verdict : {v w : Verdict} → verdict_of v ≡ verdict_of w → v ≡ w
-same_verdict {v} {w} e = sym (back v) ∙ ap verdict_for e ∙ back w
+same_verdict : {r q : Result Unit Answer} → verdict_of r ≡ verdict_of q → r ≡ q
+same_verdict {r} {q} e = sym (back r) ∙ ap answer_for e ∙ back q
 
-pub test_set_unique : (F m : ℕ) (budgets masks : List ℕ) {v w : Verdict} → verdict_of v ≡ tested_set F m budgets masks → verdict_of w ≡ tested_set F m budgets masks → v ≡ w
+pub test_rack_unique : (F m : ℕ) {r q : Result Unit Answer} → verdict_of r ≡ tested_rack F m → verdict_of q ≡ tested_rack F m → r ≡ q
+test_rack_unique F m a b = same_verdict (a ∙ sym b)
+
+pub test_set_unique : (F m : ℕ) (budgets masks : List ℕ) {r q : Result Unit Answer} → verdict_of r ≡ tested_set F m budgets masks → verdict_of q ≡ tested_set F m budgets masks → r ≡ q
 test_set_unique F m budgets masks a b = same_verdict (a ∙ sym b)
 
-pub test_plan_unique : (F m : ℕ) (budgets masks table : List ℕ) {v w : Verdict} → verdict_of v ≡ tested F m budgets masks table → verdict_of w ≡ tested F m budgets masks table → v ≡ w
+pub test_plan_unique : (F m : ℕ) (budgets masks table : List ℕ) {r q : Result Unit Answer} → verdict_of r ≡ tested F m budgets masks table → verdict_of q ≡ tested F m budgets masks table → r ≡ q
 test_plan_unique F m budgets masks table a b = same_verdict (a ∙ sym b)

@@ -1,160 +1,153 @@
-// The tests 1, 2, 3, 4, 13, 5, 6 of documents 01 and 02, in this order, each over all tasks before the next.
+// The tests 1, 2, 3, 4, 13, 5, 6 of documents 01 and 02, in this order, each over all tasks before the next. Frame and cores come as C lends
+// them, and budgets and masks as its two lists.
 #![tactic(auto)]
 
-ghost use Rattle.std.specs.Prelude.{◌≡◌, ◌+◌, ◌/◌, ◌≤◌, ◌<◌};
+ghost use Rattle.std.specs.Prelude.{◌≡◌, ◌≤◌, Ok, Err, MatchResult};
 ghost use Rattle.rules.specs.Piece.{whole_pieces};
-ghost use Rattle.rules.specs.Tests.{lowest_missing, mask_tested, short_table, passed, tested_set, then_room, tested};
-ghost use Rattle.tests.specs.Verdict.{verdict_of, tested_empty, tested_missing, tested_budgets, first_refusal, tested_tasks};
+ghost use Rattle.rules.specs.Tests.{mask_tested, short_table, passed, refused, tested_set, then_room, tested};
+ghost use Rattle.tests.specs.Verdict.{verdict_of, FirstRefusal, tested_rack, tested_empty, tested_missing, tested_budgets};
 
-use rules::{Answer, MaskTest};
+use rules::{Answer, MaskFault};
 
-// The lowest core of a mask at or above the number of cores; 16 where there is none.
-fn lowest_missing(mask: u16, cores: u32) -> u32
-    requires { cores ≤ 16 }
-    ensures { result ≡ lowest_missing cores mask }
+// One test over all tasks, each with its number: the first refusal.
+fn test_each<T: Copy, F: Fn(usize, T) -> Result<(), Answer>>(
+    values: &[T],
+    test: F,
+) -> Result<(), Answer>
+    requires { F.IsAlwaysCallable test }
+    ensures { FirstRefusal (λ i x r. F.post test i x r) values.now result }
 {
-    let mut core = cores;
-    while core < 16 {
-        if (mask >> core) & 1 == 1 {
-            return core;
-        }
-        core += 1;
+    for (task, value) in values.iter().enumerate() {
+        test(task, *value)?;
     }
-    core
+    Ok(())
 }
 
-// Looks at one mask: "Keep 4 for the empty mask. A mask that names a missing core gets a number of its own, and carries .. the lowest such core."
-fn test_mask(mask: u16, cores: u32) -> MaskTest
-    requires { cores ≤ 16 }
-    ensures { result ≡ mask_tested cores mask }
-{
-    if mask == 0 {
-        return MaskTest::Empty;
-    }
-    if (mask as u32) >> cores == 0 {
-        return MaskTest::Good;
-    }
-    MaskTest::Missing(lowest_missing(mask, cores))
-}
-
-// What tests say.
+// A rack that passed the tests 1 and 2: how long its frame is, and how many cores it has.
 #[derive(Clone, Copy)]
-pub enum Verdict {
-    Refused(Answer),
-    Passed,
+struct Rack {
+    frame: u32,
+    cores: u32,
+    ghost few: { cores ≤ 16 },
+    ghost good: { passed ≡ tested_rack frame cores },
 }
 
-// The test 4 over all tasks: the lowest with an empty mask.
-fn test_empty(masks: &[u16], cores: u32) -> Verdict
-    requires { cores ≤ 16 }
-    ensures { verdict_of result ≡ tested_empty masks.now }
-{
-    let mut i: usize = 0;
-    while i < masks.len() {
-        let mask = test_mask(masks[i], cores);
-        if let MaskTest::Empty = mask {
-            return Verdict::Refused(Answer::EmptyMask(i));
+impl Rack {
+    #[tactic(auto, unfolding(crate::specs::Verdict::tested_rack, rules::specs::Tests::bad_frame, rules::specs::Tests::bad_cores))]
+    fn new(frame: u32, cores: u32) -> Result<Rack, Answer>
+        ensures { MatchResult result (λ rack. (rack.frame ≡ frame) × (rack.cores ≡ cores)) (λ a. refused a ≡ tested_rack frame cores) }
+    {
+        if frame == 0 || 1_000_000 < frame {
+            return Err(Answer::FrameLength);
         }
-        i += 1;
-    }
-    Verdict::Passed
-}
-
-// The test 13 over all tasks: the lowest whose mask names a missing core, with the lowest such core.
-fn test_missing(masks: &[u16], cores: u32) -> Verdict
-    requires { cores ≤ 16 }
-    ensures { verdict_of result ≡ tested_missing cores masks.now }
-{
-    let mut i: usize = 0;
-    while i < masks.len() {
-        let mask = test_mask(masks[i], cores);
-        if let MaskTest::Missing(core) = mask {
-            return Verdict::Refused(Answer::MissingCore { task: i, core });
+        if cores == 0 || 16 < cores {
+            return Err(Answer::CoreCount);
         }
-        i += 1;
+        Ok(Rack { frame, cores })
     }
-    Verdict::Passed
-}
 
-// The test 5 over all tasks: the lowest with a budget above the frame.
-fn test_budgets(budgets: &[u32], frame: u32) -> Verdict
-    ensures { verdict_of result ≡ tested_budgets frame budgets.now }
-{
-    let mut i: usize = 0;
-    while i < budgets.len() {
-        if frame < budgets[i] {
-            return Verdict::Refused(Answer::Budget(i));
+    // Looks at one mask: "Keep 4 for the empty mask. A mask that names a missing core gets a number of its own, and carries .. the lowest such core."
+    #[tactic(auto, using(crate::proofs::MaskLaws::lowest_by_zeros), unfolding(rules::specs::Tests::mask_tested, rules::specs::Tests::empty_mask, rules::specs::Tests::past_cores))]
+    fn test_mask(self, mask: u16) -> Result<(), MaskFault>
+        ensures { result ≡ mask_tested self.cores mask }
+    {
+        if mask == 0 {
+            return Err(MaskFault::Empty);
         }
-        i += 1;
+        let past = u32::from(mask) >> self.cores;
+        if past == 0 {
+            return Ok(());
+        }
+        Err(MaskFault::Missing(self.cores + past.trailing_zeros()))
     }
-    Verdict::Passed
+
+    // The test 4 over all tasks: the lowest with an empty mask.
+    fn test_empty(self, masks: &[u16]) -> Result<(), Answer>
+        ensures { verdict_of result ≡ tested_empty masks.now }
+    {
+        test_each(masks, |task, mask| match self.test_mask(mask) {
+            Err(MaskFault::Empty) => Err(Answer::EmptyMask(task)),
+            _ => Ok(()),
+        })
+    }
+
+    // The test 13 over all tasks: the lowest whose mask names a missing core, with the lowest such core.
+    fn test_missing(self, masks: &[u16]) -> Result<(), Answer>
+        ensures { verdict_of result ≡ tested_missing self.cores masks.now }
+    {
+        test_each(masks, |task, mask| match self.test_mask(mask) {
+            Err(MaskFault::Missing(core)) => Err(Answer::MissingCore { task, core }),
+            _ => Ok(()),
+        })
+    }
+
+    // The test 5 over all tasks: the lowest with a budget above the frame.
+    fn test_budgets(self, budgets: &[u32]) -> Result<(), Answer>
+        ensures { verdict_of result ≡ tested_budgets self.frame budgets.now }
+    {
+        test_each(budgets, |task, budget| {
+            if self.frame < budget {
+                return Err(Answer::Budget(task));
+            }
+            Ok(())
+        })
+    }
+
+    // The tests 3, 4, 13 and 5, which look at the tasks as well.
+    #[tactic(auto, unfolding(crate::specs::Verdict::tested_rack, crate::specs::Verdict::tested_empty, crate::specs::Verdict::tested_missing, crate::specs::Verdict::tested_budgets, rules::specs::Tests::tested_set, rules::specs::Tests::bad_tasks))]
+    fn test_tasks(self, budgets: &[u32], masks: &[u16]) -> Result<(), Answer>
+        ensures { verdict_of result ≡ tested_set self.frame self.cores budgets.now masks.now }
+    {
+        if 64 < budgets.len() || budgets.len() != masks.len() {
+            return Err(Answer::TaskCount);
+        }
+        self.test_empty(masks)?;
+        self.test_missing(masks)?;
+        self.test_budgets(budgets)
+    }
+
+    // The test 6: n + 2 × m − 1 pieces must find room.
+    #[tactic(auto, unfolding(rules::specs::Tests::short_table))]
+    fn test_room(self, tasks: usize, table: &[u32]) -> Result<(), Answer>
+        requires { tasks ≤ 64 }
+        ensures { verdict_of result ≡ then_room (short_table tasks self.cores (whole_pieces table.now)) passed }
+    {
+        // There is no From of a u32 for a usize.
+        if table.len() / 4 + 1 < tasks + 2 * (self.cores as usize) {
+            return Err(Answer::ShortTable);
+        }
+        Ok(())
+    }
 }
 
-// Two tests, the one before the other.
-fn first_refusal(one: Verdict, other: Verdict) -> Verdict
-    ensures { verdict_of result ≡ first_refusal (verdict_of one) (verdict_of other) }
+// The tests 1 and 2, which look at the frame and the cores alone.
+pub fn test_rack(frame: u32, cores: u32) -> Result<(), Answer>
+    ensures { verdict_of result ≡ tested_rack frame cores }
 {
-    match one {
-        Verdict::Refused(answer) => Verdict::Refused(answer),
-        Verdict::Passed => other,
-    }
-}
-
-// The tests 4, 13 and 5, in this order.
-fn test_tasks(frame: u32, cores: u32, budgets: &[u32], masks: &[u16]) -> Verdict
-    requires { cores ≤ 16 }
-    ensures { verdict_of result ≡ tested_tasks frame cores budgets.now masks.now }
-{
-    let empty = test_empty(masks, cores);
-    let missing = test_missing(masks, cores);
-    let high = test_budgets(budgets, frame);
-    let later = first_refusal(missing, high);
-    first_refusal(empty, later)
+    Rack::new(frame, cores)?;
+    Ok(())
 }
 
 // The tests 1, 2, 3, 4, 13 and 5, which look at the set alone.
-pub fn test_set(frame: u32, cores: u32, budgets: &[u32], masks: &[u16]) -> Verdict
+#[tactic(auto, unfolding(crate::specs::Verdict::tested_rack, rules::specs::Tests::tested_set))]
+pub fn test_set(frame: u32, cores: u32, budgets: &[u32], masks: &[u16]) -> Result<(), Answer>
     ensures { verdict_of result ≡ tested_set frame cores budgets.now masks.now }
 {
-    if frame == 0 {
-        return Verdict::Refused(Answer::FrameLength);
-    }
-    if 1_000_000 < frame {
-        return Verdict::Refused(Answer::FrameLength);
-    }
-    if cores == 0 {
-        return Verdict::Refused(Answer::CoreCount);
-    }
-    if 16 < cores {
-        return Verdict::Refused(Answer::CoreCount);
-    }
-    if 64 < budgets.len() {
-        return Verdict::Refused(Answer::TaskCount);
-    }
-    if budgets.len() != masks.len() {
-        return Verdict::Refused(Answer::TaskCount);
-    }
-    test_tasks(frame, cores, budgets, masks)
-}
-
-// The test 6: n + 2 × m − 1 pieces must find room.
-fn test_room(cores: u32, tasks: usize, table: &[u32]) -> Verdict
-    requires { (cores ≤ 16) × (tasks ≤ 64) }
-    ensures { verdict_of result ≡ then_room (short_table tasks cores (whole_pieces table.now)) passed }
-{
-    if table.len() / 4 + 1 < tasks + 2 * (cores as usize) {
-        return Verdict::Refused(Answer::ShortTable);
-    }
-    Verdict::Passed
+    Rack::new(frame, cores)?.test_tasks(budgets, masks)
 }
 
 // All tests: 6 after those.
-pub fn test_plan(frame: u32, cores: u32, budgets: &[u32], masks: &[u16], table: &[u32]) -> Verdict
+#[tactic(auto, unfolding(crate::specs::Verdict::tested_rack, rules::specs::Tests::tested_set, rules::specs::Tests::tested))]
+pub fn test_plan(
+    frame: u32,
+    cores: u32,
+    budgets: &[u32],
+    masks: &[u16],
+    table: &[u32],
+) -> Result<(), Answer>
     ensures { verdict_of result ≡ tested frame cores budgets.now masks.now table.now }
 {
-    let verdict = test_set(frame, cores, budgets, masks);
-    match verdict {
-        Verdict::Refused(answer) => Verdict::Refused(answer),
-        Verdict::Passed => test_room(cores, budgets.len(), table),
-    }
+    let rack = Rack::new(frame, cores)?;
+    rack.test_tasks(budgets, masks)?;
+    rack.test_room(budgets.len(), table)
 }

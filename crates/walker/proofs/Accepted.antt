@@ -13,11 +13,15 @@ use Rattle.rules.specs.Service.{units}
 use Rattle.rules.specs.Paced.{Paced, Bounded}
 use Rattle.rules.specs.Jobs.{bad_job_count, first_bad_job, first_asking}
 use Rattle.rules.specs.Walked.{walk_tested, WalkRefusal, WalkDone, WalkAnswerAt, WalkAnswer}
+use Rattle.rules.specs.Answer.{number_of}
 use Rattle.rules.specs.declared.Answer.{Answer}
 use Rattle.rules.specs.declared.Answer.TheVariants.{Accepted, FrameLength, CoreCount, NotTable, JobList, NoUnits, ShortFinishes}
 use Rattle.table.proofs.Accepted.{frame_some}
-use Rattle.walker.specs.Jobs.{accepts}
 use Rattle.walker.proofs.Bound.{paced_bounded}
+
+-- whether the answer is 0
+abbrev accepts : Answer → Bool
+accepts a = eqb (number_of a) 0
 
 module _ (F m : ℕ) (table : List ℕ) (task : ℕ) (releases jobs before : List ℕ) (r : Answer) (after : List ℕ)
     (answer : WalkAnswer F m table task releases jobs before r after) (yes-answer : r ≡ Accepted) where

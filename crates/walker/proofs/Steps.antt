@@ -10,10 +10,11 @@ use native.Mathlib.Omega.{arith}
 use lib.ListN.{length, get_or, set, drop, length-set}
 use lib.Seq.{get_or-set_same, get_or-set_other, drop-set-lt}
 use Rattle.rules.specs.Finish.{begin_of}
+use Rattle.walker.specs.declared.span.Span.{Span}
 use Rattle.walker.specs.Served.{units_of}
 use Rattle.walker.specs.Least.{FinishBy}
-use Rattle.walker.specs.Step.{StepReady, Stepped}
-use Rattle.walker.specs.Jobs.{Finished, AllReady}
+use Rattle.walker.specs.Step.{Ready, StepReady, Stepped}
+use Rattle.walker.specs.Jobs.{Finished, AllReady, JobsGood}
 
 -- the finish before job k; 0 before the first
 abbrev pub prior : List ℕ → ℕ → ℕ
@@ -29,13 +30,13 @@ prior_set : (after : List ℕ) (k e j : ℕ) → j ≤ k → prior (set after k 
 prior_set after k e zero h = refl
 prior_set after k e (suc j) h = get_or-set_other after k j e 0 (λ d. omega arith)
 
-module _ (F : ℕ) (starts lens releases jobs before : List ℕ) where
+module _ (F : ℕ) (spans : List Span) (releases jobs before : List ℕ) where
   -- the clock stands at `at` before job k
   pub record Finishing (after : List ℕ) (at k : ℕ) : Type 0 where
     pub below : k ≤ length releases
     pub clock : at ≡ prior after k
     pub near : at ≤ 1000000000000 * (k + 1)
-    pub done : (j : ℕ) → j < k → FinishBy (units_of F starts lens) (max (get_or releases j 0) (prior after j)) (get_or jobs j 0) (get_or after j 0)
+    pub done : (j : ℕ) → j < k → FinishBy (units_of F spans) (max (get_or releases j 0) (prior after j)) (get_or jobs j 0) (get_or after j 0)
     pub size : length after ≡ length before
     pub kept : drop (length releases) after ≡ drop (length releases) before
 
@@ -50,27 +51,26 @@ module _ (F : ℕ) (starts lens releases jobs before : List ℕ) where
         kept = refl;
       }
 
-  module _ (total : ℕ) (ready : AllReady F starts lens releases jobs before total) (after : List ℕ) (at k : ℕ) (now : Finishing after at k) (inside : k < length releases) where
+  module _ (total : ℕ) (ready : Ready F spans) (good : JobsGood releases jobs) (all : AllReady releases jobs before total) (after : List ℕ) (at k : ℕ) (now : Finishing after at k) (inside : k < length releases) where
     job_small : get_or jobs k 0 * F ≤ 1000000000000
-    job_small = omega (arith, mul-le-mul_right F (ready.jobs_good.job k inside), ready.counted.ready.short)
+    job_small = omega (arith, mul-le-mul_right F (good.job k inside), ready.short)
 
-    pub finishing_ready : StepReady F starts lens total (max (get_or releases k 0) at) (get_or jobs k 0)
+    pub finishing_ready : StepReady F total (max (get_or releases k 0) at) (get_or jobs k 0)
     finishing_ready =
         record {
-          counted = ready.counted;
-          some = ready.asked k (omega (arith, ready.jobs_good.same));
-          small = omega (arith, job_small, ready.jobs_good.release k inside, now.near, ready.jobs_good.few);
+          some = all.asked k (omega (arith, good.same));
+          small = omega (arith, job_small, good.release k inside, now.near, good.few);
         }
 
     pub finishing_room : k < length after
-    finishing_room = omega (arith, now.size, ready.room)
+    finishing_room = omega (arith, now.size, all.room)
 
-    pub finishing_more : (e : ℕ) → Stepped F starts lens (max (get_or releases k 0) at) (get_or jobs k 0) e → Finishing (set after k e) e (k + 1)
+    pub finishing_more : (e : ℕ) → Stepped F spans (max (get_or releases k 0) at) (get_or jobs k 0) e → Finishing (set after k e) e (k + 1)
     finishing_more e s =
         record {
           below = omega arith;
           clock = rw (add-one k) (sym here);
-          near = omega (arith, s.near, job_small, ready.jobs_good.release k inside, now.near);
+          near = omega (arith, s.near, job_small, good.release k inside, now.near);
           done = done;
           size = length-set after k e ∙ now.size;
           kept = drop-set-lt (length releases) after k e inside ∙ now.kept;
@@ -79,17 +79,17 @@ module _ (F : ℕ) (starts lens releases jobs before : List ℕ) where
         here : get_or (set after k e) k 0 ≡ e
         here = get_or-set_same after k e 0 finishing_room
 
-        last : FinishBy (units_of F starts lens) (max (get_or releases k 0) (prior (set after k e) k)) (get_or jobs k 0) (get_or (set after k e) k 0)
+        last : FinishBy (units_of F spans) (max (get_or releases k 0) (prior (set after k e) k)) (get_or jobs k 0) (get_or (set after k e) k 0)
         last = rw (prior_set after k e k (le_refl _), ← now.clock, here) s.finish
 
-        done : (j : ℕ) → j < k + 1 → FinishBy (units_of F starts lens) (max (get_or releases j 0) (prior (set after k e) j)) (get_or jobs j 0) (get_or (set after k e) j 0)
+        done : (j : ℕ) → j < k + 1 → FinishBy (units_of F spans) (max (get_or releases j 0) (prior (set after k e) j)) (get_or jobs j 0) (get_or (set after k e) j 0)
         done j h =
             elim (ℕ_discrete j k) [
               | yes d ↦ rw d last
               | no d ↦ rw (prior_set after k e j (omega arith), get_or-set_other after k j e 0 (λ f. d f)) (now.done j (omega arith))
             ]
 
-  pub finishing_done : (after : List ℕ) (at k : ℕ) → Finishing after at k → length releases ≤ k → Finished F starts lens releases jobs before after
+  pub finishing_done : (after : List ℕ) (at k : ℕ) → Finishing after at k → length releases ≤ k → Finished F spans releases jobs before after
   finishing_done after at k now h =
       record {
         finishes = λ j l. rw (begin_prior releases after j) (now.done j (omega arith));

@@ -4,7 +4,8 @@ use Rattle.std.specs.Prelude.{◌≡◌, true, List, ℕ, ◌≤◌, length}
 use Rattle.rules.specs.Piece.{pieces_of}
 use Rattle.rules.specs.FrameTable.{frame_table}
 use Rattle.rules.specs.Service.{covered}
-use Rattle.walker.specs.Served.{unit_to, Spans}
+use Rattle.walker.specs.declared.span.Span.{Span}
+use Rattle.walker.specs.Served.{unit_to, Sorted}
 
 pub record FrameOf (F : ℕ) (l : List ℕ) : Type 0 where
   pub cores : ℕ
@@ -13,6 +14,6 @@ pub record FrameOf (F : ℕ) (l : List ℕ) : Type 0 where
   pub table : frame_table F cores l ≡ true
 
 -- the stretches cover an instant of the frame exactly where some piece of the task does
-pub record Gathered (F : ℕ) (l : List ℕ) (task : ℕ) (starts lens : List ℕ) : Type 0 where
-  pub spans : Spans F starts lens
-  pub units : (t : ℕ) → unit_to starts lens (length starts) t ≡ covered task t (pieces_of l)
+pub record Gathered (F : ℕ) (l : List ℕ) (task : ℕ) (spans : List Span) : Type 0 where
+  pub sorted : Sorted F spans
+  pub units : (t : ℕ) → unit_to spans (length spans) t ≡ covered task t (pieces_of l)

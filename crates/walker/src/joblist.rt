@@ -1,78 +1,69 @@
-// The tests of a job list.
-ghost use Rattle.std.specs.Prelude.{◌≡◌, cond, ◌<◌, length};
-ghost use Rattle.rules.specs.Jobs.{bad_job, first_bad_job, first_asking};
-ghost use Rattle.walker.specs.Jobs.{accepts, jobs_answer};
+// A job list and its tests. C lends it as two lists, a release and units for each job.
+ghost use Rattle.std.specs.Prelude.{◌≡◌, ◌<◌, length, IfErr, IfOk};
+ghost use Rattle.rules.specs.Jobs.{first_bad_job, first_asking};
+ghost use Rattle.rules.specs.Tests.{refused, passed};
+ghost use Rattle.walker.specs.Jobs.{place, is_bad, tested_jobs, waiting, JobsGood};
 
 use rules::Answer;
 
-// Whether the answer is 0: its number decides, so that a new answer changes nothing here.
-pub(crate) fn is_accepted(a: Answer) -> bool
-    ensures { result ≡ accepts a }
-{
-    rules::number(a) == 0
+// A job list that passes the test 9: each job's release, and the units that it asks.
+#[derive(Clone, Copy)]
+pub(crate) struct Jobs<'a> {
+    pub releases: &'a [u64],
+    pub units: &'a [u32],
+    ghost good: { JobsGood releases.now units.now },
+}
+
+impl<'a> Jobs<'a> {
+    // Answer 9: "releases and units differ in number, or more than 4,096 jobs (both carry job 0); otherwise the first job with" a fault.
+    #[tactic(auto, using(crate::proofs::Jobs::jobs_good), unfolding(crate::specs::Jobs::tested_jobs, rules::specs::Jobs::bad_job_count))]
+    pub(crate) fn new(releases: &'a [u64], units: &'a [u32]) -> Result<Jobs<'a>, Answer>
+        ensures { IfErr result (λ a. refused a ≡ tested_jobs releases.now units.now)
+            × IfOk result (λ jobs. (passed ≡ tested_jobs releases.now units.now) × (jobs.releases.now ≡ releases.now) × (jobs.units.now ≡ units.now)) }
+    {
+        if releases.len() != units.len() || 4096 < releases.len() {
+            return Err(Answer::JobList(0));
+        }
+        match first_bad_job(releases, units) {
+            Some(job) => Err(Answer::JobList(job)),
+            None => Ok(Jobs { releases, units }),
+        }
+    }
+
+    // "walked task has no units in the table and a job asks units": the first such job.
+    pub(crate) fn waiting(&self, total: u64) -> Option<usize>
+        ensures { result ≡ waiting total self.now.units.now }
+    {
+        if total == 0 {
+            first_asking(self.units)
+        } else {
+            None
+        }
+    }
 }
 
 // "a release below the one before it, a release above the limit or units above the limit"
-pub(crate) fn is_bad_job(releases: &[u64], units: &[u32], k: usize) -> bool
+#[tactic(auto, using(crate::proofs::Jobs::bad_faults))]
+fn is_bad_job(releases: &[u64], units: &[u32], k: usize) -> bool
     requires { (k < length releases.now) × (length units.now ≡ length releases.now) }
-    ensures { cond result 1 0 ≡ bad_job releases.now units.now k }
+    ensures { result ≡ is_bad releases.now units.now k }
 {
-    let release = releases[k];
-    let asked = units[k];
-    if 1_000_000_000_000 < release {
-        return true;
-    }
-    if 1_000_000 < asked {
-        return true;
-    }
-    if k == 0 {
-        return false;
-    }
-    release < releases[k - 1]
+    (k != 0 && releases[k] < releases[k - 1])
+        || 1_000_000_000_000 < releases[k]
+        || 1_000_000 < units[k]
 }
 
-// "the first job with" such a fault; the number of jobs where there is none
-pub(crate) fn first_bad_job(releases: &[u64], units: &[u32]) -> usize
+// "the first job with" such a fault. It takes the two lists, since there are no Jobs before it finds none.
+fn first_bad_job(releases: &[u64], units: &[u32]) -> Option<usize>
     requires { length units.now ≡ length releases.now }
-    ensures { result ≡ first_bad_job releases.now units.now }
+    ensures { result ≡ place (first_bad_job releases.now units.now) (length releases.now) }
 {
-    let mut k: usize = 0;
-    while k < releases.len() {
-        if is_bad_job(releases, units, k) {
-            return k;
-        }
-        k += 1;
-    }
-    k
+    (0..releases.len()).position(|k| is_bad_job(releases, units, k))
 }
 
-// "a job asks units": the first such job; the number of jobs where there is none
-pub(crate) fn first_asking(units: &[u32]) -> usize
-    ensures { result ≡ first_asking units.now }
+// "a job asks units": the first such job
+fn first_asking(units: &[u32]) -> Option<usize>
+    ensures { result ≡ place (first_asking units.now) (length units.now) }
 {
-    let mut k: usize = 0;
-    while k < units.len() {
-        if units[k] != 0 {
-            return k;
-        }
-        k += 1;
-    }
-    k
-}
-
-// Answer 9: "releases and units differ in number, or more than 4,096 jobs (both carry job 0); otherwise the first job with" a fault.
-pub(crate) fn check_jobs(releases: &[u64], units: &[u32]) -> Answer
-    ensures { result ≡ jobs_answer releases.now units.now }
-{
-    if releases.len() != units.len() {
-        return Answer::JobList(0);
-    }
-    if 4096 < releases.len() {
-        return Answer::JobList(0);
-    }
-    let bad = first_bad_job(releases, units);
-    if bad < releases.len() {
-        return Answer::JobList(bad);
-    }
-    Answer::Accepted
+    units.iter().position(|asked| *asked != 0)
 }

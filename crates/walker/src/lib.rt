@@ -5,72 +5,64 @@
 mod clock;
 mod joblist;
 mod service;
+mod span;
 
-ghost use Rattle.std.specs.Prelude.{◌≡◌, ◌&&◌, eqb, ltb};
 ghost use Rattle.rules.specs.Walked.{WalkAnswer};
 ghost use Rattle.walker.specs.Gathered.{FrameOf};
-ghost use Rattle.walker.specs.Jobs.{JobsGood, SpansAnswer, TaskAnswer};
-ghost use Rattle.walker.specs.Step.{Ready};
+ghost use Rattle.rules.specs.Answer.{answer_of};
+ghost use Rattle.walker.specs.Jobs.{SpansAnswer, TaskAnswer};
 
+use crate::joblist::Jobs;
+use crate::service::Service;
+use crate::span::Span;
 use rules::Answer;
 
-// "walked task has no units in the table and a job asks units"
-pub(crate) fn lacks_units(total: u64, asking: usize, jobs: usize) -> bool
-    ensures { result ≡ (eqb total 0 && ltb asking jobs) }
-{
-    if total == 0 {
-        return asking < jobs;
-    }
-    false
-}
-
 // The tests 10 and 11, and then the steps.
-pub(crate) fn walk_spans(
-    frame: u32,
-    starts: &[u32],
-    lens: &[u32],
-    releases: &[u64],
-    units: &[u32],
-    finishes: &mut [u64],
-) -> Answer
-    requires { Ready frame starts.now lens.now × JobsGood releases.now units.now }
-    ensures { SpansAnswer frame starts.now lens.now releases.now units.now finishes.old result finishes.new }
+pub(crate) fn walk_spans(service: &Service, jobs: &Jobs, finishes: &mut [u64]) -> Result<(), Answer>
+    ensures { SpansAnswer service.now.frame service.now.spans.now jobs.now.releases.now jobs.now.units.now finishes.old (answer_of result) finishes.new }
 {
-    let total = service::served(starts, lens, frame);
-    let asking = joblist::first_asking(units);
-    if lacks_units(total, asking, units.len()) {
-        return Answer::NoUnits(asking);
+    if let Some(job) = jobs.waiting(service.total) {
+        return Err(Answer::NoUnits(job));
     }
-    if finishes.len() < releases.len() {
-        return Answer::ShortFinishes;
+    if finishes.len() < jobs.releases.len() {
+        return Err(Answer::ShortFinishes);
     }
-    clock::finish_all(frame, starts, lens, total, releases, units, finishes);
-    Answer::Accepted
+    clock::finish_all(service, jobs, finishes);
+    Ok(())
 }
 
-// The walk over a frame table with a good job list.
+// The walk over a frame table with a job list that passed its test.
 pub(crate) fn walk_task(
     frame: u32,
+    table: &[u32],
+    task: u32,
+    jobs: &Jobs,
+    finishes: &mut [u64],
+) -> Result<(), Answer>
+    requires { FrameOf frame table.now }
+    ensures { TaskAnswer frame table.now task jobs.now.releases.now jobs.now.units.now finishes.old (answer_of result) finishes.new }
+{
+    let mut room = [Span { start: 0, len: 0 }; 95];
+    let count = span::gather(frame, table, task, &mut room);
+    let service = Service::new(frame, &room[..count]);
+    walk_spans(&service, jobs, finishes)
+}
+
+// The tests 1, 2, 8 and 9 before it.
+pub(crate) fn walk_tested(
+    frame: u32,
+    cores: u32,
     table: &[u32],
     task: u32,
     releases: &[u64],
     units: &[u32],
     finishes: &mut [u64],
-) -> Answer
-    requires { FrameOf frame table.now × JobsGood releases.now units.now }
-    ensures { TaskAnswer frame table.now task releases.now units.now finishes.old result finishes.new }
+) -> Result<(), Answer>
+    ensures { WalkAnswer frame cores table.now task releases.now units.now finishes.old (answer_of result) finishes.new }
 {
-    let mut starts = [0u32; 95];
-    let mut lens = [0u32; 95];
-    let count = service::gather(frame, table, task, &mut starts, &mut lens);
-    walk_spans(
-        frame,
-        &starts[..count],
-        &lens[..count],
-        releases,
-        units,
-        finishes,
-    )
+    table::test_table(frame, cores, table)?;
+    let jobs = Jobs::new(releases, units)?;
+    walk_task(frame, table, task, &jobs, finishes)
 }
 
 // Each job's finish, by "The walker tests 1, 2, 8, 9, 10, 11."
@@ -85,13 +77,5 @@ pub fn walk(
 ) -> Answer
     ensures { WalkAnswer frame cores table.now task releases.now units.now finishes.old result finishes.new }
 {
-    let checked = table::check_table(frame, cores, table);
-    if !joblist::is_accepted(checked) {
-        return checked;
-    }
-    let listed = joblist::check_jobs(releases, units);
-    if !joblist::is_accepted(listed) {
-        return listed;
-    }
-    walk_task(frame, table, task, releases, units, finishes)
+    Answer::from(walk_tested(frame, cores, table, task, releases, units, finishes))
 }

@@ -3,8 +3,8 @@ use Rattle.std.proofs.Common.{length, ◌≡◌, ◌≤◌}
 use Rattle.stream.specs.Reading.{ahead}
 use Rattle.calls.proofs.answer_all.Given as goal
 
-abbrev pub invariant-loop-source : goal.invariant-loop-source
-invariant-loop-source g l = (l.len ≤ length l.initial.line) × (length l.input ≡ length l.initial.input)
+abbrev pub invariant-loop-chunk : goal.invariant-loop-chunk
+invariant-loop-chunk g l = (l.len ≤ 99003) × (length l.input ≡ length l.initial.input)
 
-abbrev pub decreases-loop-source : goal.decreases-loop-source
-decreases-loop-source g l = ahead l.source
+abbrev pub decreases-loop-chunk : goal.decreases-loop-chunk
+decreases-loop-chunk g l = ahead l.source

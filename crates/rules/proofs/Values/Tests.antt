@@ -4,11 +4,12 @@ use mathlib.Core.Path.{◌≡◌, refl}
 use mathlib.Core.Bool.{true, false}
 use mathlib.Core.List.{[], ◌∷◌}
 use lib.ListN.{replicate}
+use Rattle.std.specs.Prelude.{Ok, Err}
 use Rattle.rules.specs.Sum.{first_at, lowest}
 use Rattle.rules.specs.Sets.{has}
 use Rattle.rules.specs.Tests.{tested_set, bad_frame, bad_cores, bad_tasks, empty_mask, past_cores, lowest_missing, mask_tested, bad_budget, short_table, refused, passed, tested}
 use Rattle.rules.specs.declared.Answer.TheVariants.{FrameLength, CoreCount, TaskCount, EmptyMask, Budget, ShortTable, MissingCore}
-use Rattle.rules.specs.declared.MaskTest.TheVariants.{Good, Empty, Missing}
+use Rattle.rules.specs.declared.MaskFault.TheVariants.{Empty, Missing}
 
 -- "1 to 1,000,000"
 frame_edges : bad_frame 0 ∷ bad_frame 1 ∷ bad_frame 1000000 ∷ bad_frame 1000001 ∷ [] ≡ true ∷ false ∷ false ∷ true ∷ []
@@ -49,7 +50,7 @@ unfolding lowest_missing lowest has
 lowest_edges = refl
 
 -- an empty mask is not also one without missing cores
-mask_values : mask_tested 2 0b00 ∷ mask_tested 2 0b11 ∷ mask_tested 2 0x8008 ∷ mask_tested 16 0xffff ∷ [] ≡ Empty ∷ Good ∷ Missing 3 ∷ Good ∷ []
+mask_values : mask_tested 2 0b00 ∷ mask_tested 2 0b11 ∷ mask_tested 2 0x8008 ∷ mask_tested 16 0xffff ∷ [] ≡ Err Empty ∷ Ok tt ∷ Err (Missing 3) ∷ Ok tt ∷ []
 unfolding mask_tested empty_mask past_cores lowest_missing lowest has
 mask_values = refl
 

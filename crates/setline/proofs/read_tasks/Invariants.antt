@@ -1,12 +1,6 @@
--- `setline::read_tasks` meets its contract. The loop's invariant: the fields of the tasks passed stand at the front of the two lists.
-use Rattle.std.proofs.Common.{◌≡◌, ◌≤◌, ◌-◌, length}
+-- `setline::read_tasks` meets its contract. The loop's invariant: the tasks passed stand at the front of the two lists.
 use Rattle.setline.specs.Decoded.{Tasked}
 use Rattle.setline.proofs.read_tasks.Given as goal
 
 abbrev pub invariant-loop-i : goal.invariant-loop-i
-invariant-loop-i l =
-    Tasked l.line l.i l.initial.budgets l.budgets l.initial.masks l.masks × (l.i ≤ l.n) × (length l.budgets ≡ length l.initial.budgets) × (length l.masks ≡ length l.initial.masks)
-
-abbrev pub decreases-loop-i : goal.decreases-loop-i
-decreases-loop-i l =
-    l.n - l.i
+invariant-loop-i l = Tasked l.line l.i l.initial.budgets l.budgets l.initial.masks l.masks

@@ -1,16 +1,17 @@
--- `walker::walk_spans` meets its contract: each goal is answered by a law of the crate's proofs.
-use Rattle.std.proofs.Common.{rules}
 use Rattle.walker.proofs.Walking.{spans_lacks, spans_short, spans_done, spans_ready}
 use Rattle.walker.proofs.walk_spans.Goals as goal
 
-pub returns-then-lacks_units : goal.returns-then-lacks_units
-returns-then-lacks_units c = search (spans_lacks, rules)
+pub returns-in-Some : goal.returns-in-Some
+returns-in-Some c = spans_lacks _ _ _ _ _ _ c.args.service.now.ready c.args.service.now.counted _ c.in-Some.ensures
 
-pub returns-then-finishes-releases : goal.returns-then-finishes-releases
-returns-then-finishes-releases c = search (spans_short, rules)
+pub returns-then-finishes-jobs : goal.returns-then-finishes-jobs
+returns-then-finishes-jobs c =
+    spans_short _ _ _ _ _ _ c.args.service.now.ready c.args.service.now.counted c.in_default.ensures c.if-finishes-jobs.true
 
 pub finish_all-requires : goal.finish_all-requires
-finish_all-requires c = search (spans_ready, rules)
+finish_all-requires c =
+    spans_ready _ _ _ _ _ _ c.args.service.now.ready c.args.service.now.counted c.in_default.ensures c.if-finishes-jobs.false
 
 pub returns : goal.returns
-returns c = search (spans_done, rules)
+returns c =
+    spans_done _ _ _ _ _ _ c.args.service.now.ready c.args.service.now.counted c.in_default.ensures c.if-finishes-jobs.false _ c.finish_all.ensures

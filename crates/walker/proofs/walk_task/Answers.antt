@@ -1,7 +1,6 @@
--- `walker::walk_task` meets its contract: each goal is answered by a law of the crate's proofs.
-use Rattle.std.proofs.Common.{rules}
 use Rattle.walker.proofs.Walking.{task_answer}
 use Rattle.walker.proofs.walk_task.Goals as goal
 
 pub returns : goal.returns
-returns c = search (task_answer, rules)
+returns c =
+    task_answer _ _ _ _ _ _ _ c.gather-count.ensures.1 _ _ (rw (c.new-service.ensures.0, c.new-service.ensures.1) at c.walk_spans.ensures)

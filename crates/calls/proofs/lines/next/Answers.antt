@@ -1,19 +1,19 @@
 -- A byte at least is taken, and no more are kept than the line has room for.
-use Rattle.std.proofs.Common.{◌≡◌, ℕ, ◌≤◌, ◌<◌, List, length, drop, rules}
-use Rattle.stream.specs.Taking.{taking}
-use Rattle.stream.specs.declared.line.Taken.{Taken}
+use Rattle.std.proofs.Common.{arith, length, ◌≤◌}
 use Rattle.stream.proofs.LineLaws.{took_few, took_kept, took_some}
 use Rattle.calls.proofs.lines.next.Goals as goal
 
--- a byte at least is taken
-took_one : (chunk line : List ℕ) (len : ℕ) (r : Taken) (line' : List ℕ) → 0 < length chunk → len ≤ length line → (r, line') ≡ taking (drop 0 chunk) 0 line len → 1 ≤ r.at
-took_one chunk line len r line' h f e = took_some chunk 0 line len r line' h f e
+pub shared_ref_as_front-answer : goal.shared_ref_as_front-answer
+shared_ref_as_front-answer c =
+    let few : c.args.len ≤ length c.args.line.now = omega (arith, c.requires.1, c.told-line) in
+    omega (arith, c.told-line, c.take_line-taken.auto.line, took_few _ _ _ _ _ _ c.requires.0 few c.take_line-taken.ensures _ c.in-Whole.is)
 
-pub answer-requires : goal.answer-requires
-answer-requires c = search (took_few, rules)
+pub returns-in-Whole : goal.returns-in-Whole
+returns-in-Whole c =
+    let few : c.args.len ≤ length c.args.line.now = omega (arith, c.requires.1, c.told-line) in
+    (omega arith, omega (arith, took_some _ _ _ _ _ _ c.requires.0 few c.take_line-taken.ensures), c.answer.ensures)
 
-pub returns-then-taken : goal.returns-then-taken
-returns-then-taken c = search (took_one, rules)
-
-pub returns : goal.returns
-returns c = search (took_kept, took_one, rules)
+pub returns-in-Begun : goal.returns-in-Begun
+returns-in-Begun c =
+    let few : c.args.len ≤ length c.args.line.now = omega (arith, c.requires.1, c.told-line) in
+    (omega (arith, c.told-line, took_kept _ _ _ _ _ _ c.requires.0 few c.take_line-taken.ensures _ c.in-Begun.is), omega (arith, took_some _ _ _ _ _ _ c.requires.0 few c.take_line-taken.ensures), omega arith)

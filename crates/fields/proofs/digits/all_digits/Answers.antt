@@ -1,12 +1,11 @@
-use Rattle.std.proofs.Common.{rules}
-use Rattle.fields.proofs.DigitLaws.{all_stop, all_done, all_more}
+-- `fields::digits::all_digits` meets its contract: the chain tests each byte.
+use Rattle.std.proofs.Common.{rules, tests, ◌∙◌}
+use Rattle.std.proofs.lemmas.Iterator.{YieldsList-from_slice}
+use Rattle.std.proofs.lemmas.Iterator.Search.{all_from_yields_List}
+use Rattle.rules.specs.Line.{is_digit}
+use Rattle.fields.proofs.DigitLaws.{all_list}
 use Rattle.fields.proofs.digits.all_digits.Goals as goal
 
-pub returns-then-not-is_digit : goal.returns-then-not-is_digit
-returns-then-not-is_digit c = search (all_stop, rules)
-
-pub loop-i-preserved : goal.loop-i-preserved
-loop-i-preserved c = search (all_more, rules)
-
 pub returns : goal.returns
-returns c = search (all_done, rules)
+returns c =
+    all_from_yields_List is_digit _ _ _ c.all.ensures.ran (YieldsList-from_slice c.args.line.now cc) (λ x b q k. search (rules, tests)) ∙ all_list c.args.line.now

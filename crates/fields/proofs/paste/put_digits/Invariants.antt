@@ -1,12 +1,8 @@
--- `fields::paste::put_digits` meets its contract. The digits are written from the last to the first: what is still to be written gives the same output.
-use Rattle.std.proofs.Common.{◌≡◌, ◌≤◌, length}
-use Rattle.fields.proofs.PastedLaws.{written}
+-- `fields::paste::put_digits` meets its contract. The digits are written from the last to the first: what is still to be written gives the same places.
+use Rattle.std.proofs.Common.{◌≡◌, length}
+use Rattle.rules.specs.Line.{digits}
+use Rattle.fields.proofs.PastedLaws.{filled}
 use Rattle.fields.proofs.paste.put_digits.Given as goal
 
 abbrev pub invariant-loop-i : goal.invariant-loop-i
-invariant-loop-i l =
-    (written l.out l.at l.i l.v ≡ written l.initial.out l.at l.count l.value) × (length l.out ≡ length l.initial.out) × (l.i ≤ l.count)
-
-abbrev pub decreases-loop-i : goal.decreases-loop-i
-decreases-loop-i l =
-    l.i
+invariant-loop-i l = filled l.places l.i l.v ≡ digits (length l.initial.places) l.value

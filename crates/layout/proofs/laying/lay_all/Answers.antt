@@ -7,4 +7,4 @@ pub lay_cores-requires : goal.lay_cores-requires
 lay_cores-requires c = search (out_asks, rules)
 
 pub returns : goal.returns
-returns c = out_done _ _ _ c.args.units.now _ c.requires _ _ _ c.walk.ensures _ c.args.table.now c.lay_cores.new.table c.lay_cores.ensures
+returns c = out_done _ _ _ c.args.grid.units.now _ c.requires _ c.walk-walked.ensures _ c.args.table.now c.lay_cores.new.table c.lay_cores.ensures

@@ -1,9 +1,6 @@
-use Rattle.std.proofs.Common.{rules}
-use Rattle.layout.proofs.GapLaws.{gap_begin, gap_more}
+use Rattle.std.proofs.Common.{◌∙◌}
+use Rattle.layout.proofs.GapLaws.{gap_copied}
 use Rattle.layout.proofs.pieces.open_gap.Goals as goal
 
-pub loop-i-init : goal.loop-i-init
-loop-i-init c = search (gap_begin, rules)
-
-pub loop-i-preserved : goal.loop-i-preserved
-loop-i-preserved c = search (gap_more, rules)
+pub returns : goal.returns
+returns c = c.copy_within.ensures.after ∙ gap_copied _ _ _ c.requires.0

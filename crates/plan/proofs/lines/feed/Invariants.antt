@@ -4,8 +4,8 @@ use Rattle.rules.specs.LineCall.{LineAnswer}
 use Rattle.stream.proofs.LineLaws.{Feeding}
 use Rattle.plan.proofs.lines.feed.Given as goal
 
-abbrev pub invariant-loop-at : goal.invariant-loop-at
-invariant-loop-at l = Feeding LineAnswer 1907 l.chunk l.initial.line l.fn.len l.initial.out l.fn.used l.line l.out l.at l.kept l.filled
+abbrev pub invariant-loop-stage : goal.invariant-loop-stage
+invariant-loop-stage l = Feeding LineAnswer 1907 l.chunk l.initial.line l.fn.len l.initial.out 0 l.line l.out l.stage.taken l.stage.len l.stage.used
 
-abbrev pub decreases-loop-at : goal.decreases-loop-at
-decreases-loop-at l = length l.chunk - l.at
+abbrev pub decreases-loop-stage : goal.decreases-loop-stage
+decreases-loop-stage l = length l.chunk - l.stage.taken

@@ -1,12 +1,8 @@
-use Rattle.std.proofs.Common.{rules}
-use Rattle.planner.proofs.DecideLaws.{decided_whole, decided_short, fill_ready}
+use Rattle.planner.proofs.DecideLaws.{decided_whole, decided_short}
 use Rattle.planner.proofs.decide.decide.Goals as goal
 
-pub fill-filled-requires : goal.fill-filled-requires
-fill-filled-requires c = search (fill_ready, rules)
+pub returns-in-Ok : goal.returns-in-Ok
+returns-in-Ok c = decided_whole _ _ _ _ _ c.requires _ _ _ c.settle.ensures
 
-pub returns-in-Whole : goal.returns-in-Whole
-returns-in-Whole c = search (decided_whole, rules)
-
-pub returns-in-Short : goal.returns-in-Short
-returns-in-Short c = decided_short _ _ _ _ _ c.requires _ _ c.in-Short.ensures
+pub returns-in-Err : goal.returns-in-Err
+returns-in-Err c = decided_short _ _ _ _ _ c.requires _ _ c.in-Err.ensures

@@ -2,13 +2,14 @@
 use Rattle.std.proofs.Common.{◌+◌}
 use Rattle.rules.specs.Sum.{sum_to}
 use Rattle.stretches.specs.Cell.{cell}
-use Rattle.forest.specs.Stripping.{there, Stripping}
+use Rattle.forest.specs.Stripping.{there}
+use Rattle.planner.specs.Seeking.{Stripped}
 use Rattle.planner.proofs.peel.peel.Given as goal
 
-abbrev pub invariant-loop-tasks_gone : goal.invariant-loop-tasks_gone
-invariant-loop-tasks_gone l =
-    Stripping l.tasks l.cores (cell l.units) l.tasks_gone l.cores_gone
+abbrev pub invariant-loop-t : goal.invariant-loop-t
+invariant-loop-t l =
+    Stripped l.grid.tasks l.grid.cores (cell l.grid.units.now) l.gone
 
-abbrev pub decreases-loop-tasks_gone : goal.decreases-loop-tasks_gone
-decreases-loop-tasks_gone l =
-    sum_to l.tasks (there l.tasks_gone) + sum_to l.cores (there l.cores_gone)
+abbrev pub decreases-loop-t : goal.decreases-loop-t
+decreases-loop-t l =
+    sum_to l.grid.tasks (there l.gone.tasks) + sum_to l.grid.cores (there l.gone.cores)

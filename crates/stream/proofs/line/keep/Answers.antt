@@ -1,9 +1,10 @@
--- One byte more is kept where there is room.
-use Rattle.stream.proofs.TakeLaws.{kept_room, kept_full}
+-- As many bytes as there is room for, one after another.
+use Rattle.std.proofs.Common.{arith}
+use Rattle.stream.proofs.TakeLaws.{kept_none, kept_copy}
 use Rattle.stream.proofs.line.keep.Goals as goal
 
-pub returns-then-len-line-clause-value : goal.returns-then-len-line-clause-value
-returns-then-len-line-clause-value c = kept_room _ _ c.if-len-line.true
+pub returns-then-line-len : goal.returns-then-line-len
+returns-then-line-len c = kept_none _ _ _ c.if-line-len.true
 
-pub returns-clause-value : goal.returns-clause-value
-returns-clause-value c = kept_full _ _ c.if-len-line.false
+pub returns : goal.returns
+returns c = kept_copy _ _ _ _ _ _ c.min-n.ensures (omega arith) (omega arith) c.copy_from_slice.ensures.after

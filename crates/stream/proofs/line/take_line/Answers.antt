@@ -1,13 +1,15 @@
--- What is still to be taken gives the same: at a line feed, after a byte that is kept, and at the chunk's end.
-use Rattle.std.proofs.Common.{rules}
-use Rattle.stream.proofs.TakeLaws.{take_feed, take_byte, take_none}
+-- The line feed is the first, so the bytes before it are the line's.
+use Rattle.std.proofs.Common.{List, ℕ, sym, ap, ◌∙◌}
+use Rattle.stream.specs.Taking.{taking}
+use Rattle.stream.proofs.TakeLaws.{rest_of, taken_whole, taken_begun}
 use Rattle.stream.proofs.line.take_line.Goals as goal
 
-pub returns-then-b-eq-LINE_FEED : goal.returns-then-b-eq-LINE_FEED
-returns-then-b-eq-LINE_FEED c = search (take_feed, rules)
+pub returns-in-Some : goal.returns-in-Some
+returns-in-Some c =
+    taken_whole _ _ _ _ _ _ _ (sym c.first_feed.ensures ∙ c.in-Some.is) c.keep.ensures
+    ∙ ap (λ (t : List ℕ). taking t c.args.from c.args.line.now c.args.len) (rest_of _ _ _ c.min.ensures)
 
-pub loop-at-preserved : goal.loop-at-preserved
-loop-at-preserved c = search (take_byte, rules)
-
-pub returns : goal.returns
-returns c = search (take_none, rules)
+pub returns-in-None : goal.returns-in-None
+returns-in-None c =
+    taken_begun _ _ _ _ _ _ (sym c.first_feed.ensures ∙ c.in-None.is) c.keep-in-None.ensures
+    ∙ ap (λ (t : List ℕ). taking t c.args.from c.args.line.now c.args.len) (rest_of _ _ _ c.min.ensures)

@@ -1,15 +1,11 @@
-use Rattle.std.proofs.Common.{rules}
-use Rattle.walker.proofs.Jobs.{idle_none, idle_asks, idle_all, idle_more}
+use Rattle.std.proofs.Common.{rules, ◌∙◌, not, nat_eq}
+use Rattle.std.proofs.lemmas.Iterator.{YieldsList-from_slice}
+use Rattle.std.proofs.lemmas.Iterator.Search.{position_from_yields_List}
+use borrow.Author.Tests.{tests}
+use Rattle.walker.proofs.Jobs.{place_asking}
 use Rattle.walker.proofs.joblist.first_asking.Goals as goal
 
-pub loop-k-init : goal.loop-k-init
-loop-k-init c = search (idle_none, rules)
-
-pub returns-then-units-k-ne0 : goal.returns-then-units-k-ne0
-returns-then-units-k-ne0 c = search (idle_asks, rules)
-
-pub loop-k-preserved : goal.loop-k-preserved
-loop-k-preserved c = search (idle_more, rules)
-
 pub returns : goal.returns
-returns c = search (idle_all, rules)
+returns c =
+    position_from_yields_List (λ u. not (nat_eq u 0)) _ _ _ c.position.ensures.ran (YieldsList-from_slice c.args.units.now cc) (λ x b q k. search (rules, tests))
+    ∙ place_asking c.args.units.now

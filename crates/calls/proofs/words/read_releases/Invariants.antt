@@ -1,9 +1,0 @@
--- The byte past the releases that are read, and how many are left.
-use Rattle.std.proofs.Common.{length, ◌-◌, ◌≡◌, ◌+◌, ◌*◌, ◌≤◌}
-use Rattle.calls.proofs.words.read_releases.Given as goal
-
-abbrev pub invariant-loop-i : goal.invariant-loop-i
-invariant-loop-i l = (l.i ≤ length l.initial.releases) × (l.past ≡ l.at + 8 * l.i)
-
-abbrev pub decreases-loop-i : goal.decreases-loop-i
-decreases-loop-i l = length l.initial.releases - l.i

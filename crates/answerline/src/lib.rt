@@ -74,7 +74,7 @@ fn put_rest(answer: Answer, pieces: usize, table: &[u32], out: &mut [u8]) -> usi
     }
 }
 
-// The whole line at the front of an output that has room for any: what lies beyond keeps.
+// The whole line at the front of an output that has room for any: what lies beyond keeps. Its arguments are those of `put_answer`.
 fn put_line(answer: Answer, pieces: usize, table: &[u32], out: &mut [u8]) -> usize
     requires { Room table.now pieces out.old }
     ensures { (out.new ≡ pasted out.old 0 (answer_line answer (first_pieces table.now pieces))) × (result ≡ length (answer_line answer (first_pieces table.now pieces))) }

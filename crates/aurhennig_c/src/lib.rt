@@ -1,4 +1,5 @@
 // The five calls of `aurhennig` under their C names: each hands its arguments on and promises the same. include/aurhennig.h is their manual.
+// They stand twice, since a static library exports and hands on nothing, and `plan` stands on a library.
 #![tactic(auto)]
 
 ghost use Rattle.std.specs.Prelude.{◌≡◌};

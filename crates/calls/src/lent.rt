@@ -71,7 +71,7 @@ fn ask_table<F: Fn(u32, u32, &[u32]) -> (Answer, Option<u64>)>(
     ask(line.word_at(1), line.word_at(5), words)
 }
 
-// The answer line of either: `ask` is the call, with the number that it shows.
+// The answer line of either: `ask` is the call, with the number that it shows. A line is read and an output written, so they stay two.
 fn put_table<F: Fn(u32, u32, &[u32]) -> (Answer, Option<u64>)>(
     line: CallLine,
     ask: F,

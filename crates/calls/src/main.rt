@@ -19,7 +19,8 @@ const LINE_BYTES: usize = 99003;
 // The longest answer line, 99,002 digits, with its line feed.
 const OUTPUT_BYTES: usize = 99003;
 
-// Every line of the input, to its end or until reading or writing fails. Each answer line is written by itself.
+// Every line of the input, to its end or until reading or writing fails. Each answer line is written by itself. `stream` says why each program
+// has its own loop.
 fn answer_all<R: Read, W: Write>(
     input: &mut [u8],
     line: &mut [u8; LINE_BYTES],

@@ -10,6 +10,7 @@ pub(crate) struct CallLine<'a> {
     ghost short: { length bytes.now ≤ 99003 },
 }
 
+// Three readers over `field_at`: two have a cast, each proved by itself.
 impl<'a> CallLine<'a> {
     // A field of 4 bytes, so the cast is proved to lose nothing.
     #[tactic(auto, using(crate::proofs::Fields::word_below))]

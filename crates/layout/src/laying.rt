@@ -1,6 +1,6 @@
 // From units to the table: document 01, "From allocation to table". The walk gives where each core starts, and the pieces
 // of one core after the other are put into the lent table. The table stays beside the grid and the frame: a struct that held it would have to
-// be lent on at each call, which is no plainer.
+// be lent on at each call, which is no plainer. A task is asked to be the grid's, as in `before`.
 ghost use Rattle.std.specs.Prelude.{◌≡◌, ◌++◌, ◌+◌, ◌*◌, ◌/◌, ◌≤◌, ◌<◌, length, drop};
 ghost use Rattle.rules.specs.Piece.{numbers_of};
 ghost use Rattle.rules.specs.Table.{table_of};

@@ -1,4 +1,5 @@
 // The walk over the cores, step by step as specs/Layout.antt of the rules has it: where each core starts, and which task runs first on it.
+// A task and a core are asked to be the grid's, as in `before`.
 ghost use Rattle.std.specs.Prelude.{◌≡◌, cond, ℕ, ◌-◌, ◌≤◌, ◌<◌};
 ghost use Rattle.rules.specs.Sizes.{max_cores};
 ghost use Rattle.rules.specs.Sum.{lowest};

@@ -21,7 +21,7 @@ pub(crate) fn piece_at(table: &[u32], k: usize) -> Stretch
     Stretch::get(table, k).unwrap()
 }
 
-// Piece k comes into question: the task's, at `from` or later, and sooner than the best so far.
+// Piece k comes into question: the task's, at `from` or later, and sooner than the best so far. Table and task come as `next_piece` is asked.
 #[tactic(auto, unfolding(crate::specs::Next::sooner))]
 pub(crate) fn is_sooner(table: &[u32], task: u32, from: u32, best: Option<usize>, k: usize) -> bool
     requires piece { k < whole_pieces table.now }
@@ -54,7 +54,8 @@ pub(crate) fn is_move(before: Option<u32>, core: u32) -> bool
     before.is_some_and(|b| b != core)
 }
 
-// "for each task, list its pieces by start within the frame": its moves.
+// "for each task, list its pieces by start within the frame": its moves. The walker gathers pieces in the same way; an iterator for both would
+// be longer than the two loops.
 pub(crate) fn task_moves(table: &[u32], task: u32) -> usize
     requires { Framed table.now }
     ensures { (result ≡ changes (by_start task (pieces_of table.now))) × (result ≤ 95) }

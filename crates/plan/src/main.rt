@@ -25,7 +25,7 @@ struct Ending {
     len: usize,
 }
 
-// Every chunk of the input, to its end or until reading or writing fails.
+// Every chunk of the input, to its end or until reading or writing fails. `stream` says why each program has its own loop.
 fn answer_all<R: Read, W: Write>(
     input: &mut [u8],
     line: &mut [u8; LINE_BYTES],

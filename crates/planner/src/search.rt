@@ -22,7 +22,8 @@ pub(crate) struct Hop {
 pub(crate) struct Trail {
     // the cores in the order in which they were reached, up to the tail: there is no heap for a list that grows
     pub queue: [Hop; 16],
-    // by task: the place of the queue through which it was found; any for one that lacks units, where the way back ends
+    // by task: the place of the queue through which it was found; any for one that lacks units, where the way back ends. An Option would be
+    // taken apart at each step back
     pub from: [usize; 64],
     // so many cores are queued
     pub tail: usize,

@@ -13,6 +13,7 @@ pub(crate) struct Stock {
     pub room: [u32; 16],
 }
 
+// A task and a core are places here, so they stay two numbers.
 impl Stock {
     // Task i gets d units more on core j.
     pub(crate) fn place(&mut self, i: usize, j: usize, d: u32)

@@ -1,4 +1,5 @@
 // "The allocation used must be loop-free": cycles are sought and removed until the graph of units comes apart leaf by leaf.
+// The units are changed here, so they are lent beside the two sizes; a Grid lends them to be read.
 ghost use Rattle.std.specs.Prelude.{◌≡◌, ◌<◌};
 ghost use Rattle.stretches.specs.Cell.{cell};
 ghost use Rattle.forest.specs.Peeled.{Peeled};

@@ -11,7 +11,8 @@ const INPUT_ROOM: usize = 1000000000001;
 
 // The input: how many bytes may still come; from where to where what is left of the chunk stands in the buffer; whether the chunk's last
 // byte, and so the last byte that came, began or went on with a line; and whether reading or writing failed.
-// Two numbers and no Range, which is not Copy. Two flags and no Option, since writing may fail after reading did: `Passed` keeps both.
+// Two numbers and no Range, which is not Copy. `begun` is no refusal: `Last` and `Ended` read it. Two
+// flags of failure and no Option, since writing may fail after reading did: `Passed` keeps both.
 #[derive(Clone, Copy)]
 pub struct Source {
     pub left: usize,

@@ -128,7 +128,7 @@ impl TableCheck<'_> {
     }
 }
 
-// "The table check and the move count test 1, 2, 8", and the walker before its own tests.
+// "The table check and the move count test 1, 2, 8", and the walker before its own tests. Frame, cores and table come as C lends them.
 #[tactic(auto, unfolding(tests::specs::Verdict::tested_rack, crate::specs::Tested::tested_table))]
 pub fn test_table(frame: u32, cores: u32, table: &[u32]) -> Result<(), Answer>
     ensures { verdict_of result ≡ tested_table frame cores table.now }

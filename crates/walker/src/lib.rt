@@ -31,7 +31,7 @@ pub(crate) fn walk_spans(service: &Service, jobs: &Jobs, finishes: &mut [u64]) -
     Ok(())
 }
 
-// The walk over a frame table with a job list that passed its test.
+// The walk over a frame table with a job list that passed its test. Table and task are handed on as C lends them.
 pub(crate) fn walk_task(
     frame: u32,
     table: &[u32],

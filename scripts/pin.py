@@ -369,7 +369,9 @@ class Bench:
             shutil.copytree(CRATE, f"{self.first}/rules{copy}", ignore=shutil.ignore_patterns("must-fail", "out"))
             for folder, _, files in os.walk(f"{self.first}/rules{copy}"):
                 for name in files:
-                    self.write(f"{folder}/{name}", open(f"{folder}/{name}", encoding="utf-8").read(), copy)
+                    # derived comparisons rest on no definition, and their proofs would take most of a check
+                    text = open(f"{folder}/{name}", encoding="utf-8").read().replace(", PartialEq, Eq)]", ")]")
+                    self.write(f"{folder}/{name}", text, copy)
         os.mkdir(self.first + "/saved")
         status, said = self.check(self.first, range(size))
         if status != 0:
@@ -418,8 +420,8 @@ def verdict(status, said, copy):
     if status not in (0, 1):
         return "no end", said[-400:]
     if not own:
-        proved = re.search(rf"^fn rules{copy}::U8FromAnswer::from: proved", said, flags=re.M)
-        return ("left", "") if proved else ("refused", "an answer's number: not proved")
+        proved = all(re.search(rf"^fn rules{copy}::{name}::from: proved", said, flags=re.M) for name in ("U8FromAnswer", "AnswerFromResultUnitAnswer"))
+        return ("left", "") if proved else ("refused", "a conversion of an answer: not proved")
     if any("/specs/" in error.split(": error:")[0] for error in own):
         return "no program", own[0]
     roots = [error for error in own if not FOLLOWS.match(error)]

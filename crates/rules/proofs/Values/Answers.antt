@@ -3,7 +3,8 @@
 use mathlib.Core.Path.{◌≡◌, refl}
 use mathlib.Core.List.{List, [], ◌∷◌}
 use Prim.Native.Nat.{ℕ}
-use Rattle.rules.specs.Answer.{number_of, values_of}
+use Rattle.std.specs.Prelude.{Ok, Err}
+use Rattle.rules.specs.Answer.{number_of, NumberOf, values_of, answer_of, AnswerOf}
 use Rattle.rules.specs.declared.Answer.{Answer}
 use Rattle.rules.specs.declared.Answer.TheVariants.{Accepted, FrameLength, CoreCount, TaskCount, EmptyMask, Budget, ShortTable, Overloaded, NotTable, JobList, NoUnits, ShortFinishes, BadLine, MissingCore}
 
@@ -28,3 +29,14 @@ group_values = refl
 -- "the task and the lowest such core"
 core_values : shown (MissingCore 63 15) ≡ 13 ∷ 63 ∷ 15 ∷ []
 core_values = refl
+
+-- tests that refuse nothing accept; a refusal is the answer
+tested_values : answer_of (Ok tt) ∷ answer_of (Err (Budget 63)) ∷ [] ≡ Accepted ∷ Budget 63 ∷ []
+tested_values = refl
+
+-- what the two conversions say leaves one number, and one answer
+number_said : (n : ℕ) → NumberOf BadLine n → n ≡ 12
+number_said n e = e
+
+answer_said : (a : Answer) → AnswerOf (Err (JobList 0)) a → a ≡ JobList 0
+answer_said a e = e

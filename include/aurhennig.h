@@ -59,11 +59,11 @@ extern "C" {
 /* Stack: the exact number of bytes that each call needs at most, its return address included, whatever it is handed. What memcpy and memset of the C
  * library take for themselves comes on top, and where a program binds them only when they are first called, what the loader takes to find them: link
  * such a program with -Wl,-z,now. The shared library binds them when it is loaded. */
-#define AURHENNIG_STACK_PLAN 6712
-#define AURHENNIG_STACK_CHECK_TABLE 128
-#define AURHENNIG_STACK_COUNT_MOVES 192
-#define AURHENNIG_STACK_WALK 992
-#define AURHENNIG_STACK_PLAN_LINE 9880
+#define AURHENNIG_STACK_PLAN 5304
+#define AURHENNIG_STACK_CHECK_TABLE 88
+#define AURHENNIG_STACK_COUNT_MOVES 112
+#define AURHENNIG_STACK_WALK 920
+#define AURHENNIG_STACK_PLAN_LINE 8472
 
 /* The numbers: name, decimal and, as on a line, hexadecimal. `first` and `second` are what the reply carries, 0 where the row says nothing. The calls
  * that give the number: P aurhennig_plan, C aurhennig_check_table, M aurhennig_count_moves, W aurhennig_walk, L aurhennig_plan_line.

@@ -6,6 +6,8 @@ use native.Mathlib.Nat.{add-zero, le_refl, le_trans}
 use native.Mathlib.Omega.{arith}
 use mir.Val.{Fits}
 use mir.Syntax.{w32}
+use Rattle.std.specs.Prelude.{Option, Some, None}
+use Rattle.std.specs.Option.{MatchOption, IsSomeAnd}
 use Rattle.rules.specs.Sizes.{max_frame}
 use Rattle.rules.specs.Sum.{sum_to, put}
 use Rattle.rules.specs.Layout.{ahead}
@@ -44,3 +46,9 @@ whole_small v w e = omega (arith, ahead_below w.line.units w.long _ _ w.first_in
 
 pub whole_fits : {may : ℕ → Type 0} {gives : ℕ → ℕ → Type 0} {p i : ℕ} (v : ℕ) → (w : Whole may gives p i) → v ≡ ahead p w.line.units i → Fits w32 v
 whole_fits v w e = record { fits = omega (arith, whole_small v w e) }
+
+-- a number that is there or not, widened
+pub widened : (a r : Option ℕ) → MatchOption a (r ≡ None) (λ x. IsSomeAnd r (λ y. y ≡ x)) → r ≡ a
+widened None r h = h
+widened (Some x) (Some y) h = ap Some h
+widened (Some x) None h = absurd h

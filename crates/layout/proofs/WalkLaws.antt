@@ -2,24 +2,28 @@
 -- Assumes nothing.
 use mathlib.Core.Path.{◌≡◌, refl, sym, ◌∙◌, ap, ap₂, subst, fun_ext}
 use mathlib.Core.List.{List}
-use mathlib.Core.Bool.{Bool, true, false, cond, not}
-use Prim.Native.Nat.{ℕ, suc, ◌+◌, ◌-◌, ◌*◌, ◌≤◌, ◌<◌}
-use native.Mathlib.Nat.{le_antisymm, one-mul, mul-one, mul-zero, zero-mul}
+use mathlib.Core.Bool.{Bool, true, false, cond}
+use Prim.Native.Nat.{ℕ, zero, suc, min, ◌+◌, ◌-◌, ◌*◌, ◌^◌, ◌≤◌, ◌<◌}
+use native.Mathlib.Nat.{le_antisymm, lt_of_le_of_lt, one-mul, mul-one, mul-zero}
 use native.Mathlib.Numerals.{add-one}
 use native.Mathlib.Decide.{ℕ_discrete, dec_lt}
 use native.Mathlib.Omega.{arith}
+use lib.Bits.{bit_and, and_le_l}
+use lib.Count.{count_trailing_zeros, trailing_of_zero}
 use lib.Dec.{eqb}
-use borrow.Author.Tests.{eq-eqb, ne_eqb, lt-ltb, le-ltb}
+use mir.Syntax.{w16}
+use borrow.Author.Tests.{ne_eqb, lt-ltb, le-ltb}
 use lib.ListN.{length, get_or, set, length-set, replicate, get_or-replicate, get_or-eq_default}
 use lib.Seq.{get_or-set_same, get_or-set_other}
 use Rattle.std.specs.Prelude.{Option, Some, None}
-use Rattle.std.specs.Option.{MatchOption}
+use Rattle.std.specs.Int.{bit_not}
+use Rattle.std.proofs.lemmas.Nat.Bits.{bit_at_not, bit_at-trailing_zeros}
 use Rattle.rules.specs.Sizes.{max_frame, max_cores}
 use Rattle.rules.specs.Sum.{sum_to, put, lowest}
 use Rattle.rules.specs.Sets.{has}
 use Rattle.rules.specs.Layout.{Walk, ahead, stretch, begun, reach_one, reach, meet_mark, meet_one, meet, visit_mark, visit, waiting, unvisited, next_core, visits, layout}
 use Rattle.sums.proofs.Sum.{put_same, put_other}
-use Rattle.sums.proofs.Sets.{has_with, has_none, has_le_one}
+use Rattle.sums.proofs.Sets.{has_with, has_none, has_le_one, has_and}
 use Rattle.stretches.specs.Cell.{cell}
 use Rattle.stretches.specs.Small.{Small}
 use Rattle.layout.specs.Ahead.{number_of}
@@ -28,6 +32,7 @@ use Rattle.layout.specs.declared.walking.Walked.{Walked}
 use Rattle.stretches.proofs.Visits.{next_core_below}
 use Rattle.sets.specs.Joined.{joined}
 use Rattle.sets.proofs.Members.{joined_in}
+use Rattle.sums.proofs.Order.{zero_of}
 use Rattle.sums.proofs.Lowest.{lowest_none, lowest_past, lowest_found, lowest_same}
 use Rattle.stretches.proofs.Bounds.{bounded_more, bounded_meet, bounded_visits}
 use Rattle.stretches.proofs.Reaching.{one_none, one_here, one_moved, meet_none, meet_old, meet_fresh}
@@ -184,26 +189,63 @@ module _ (n m : ℕ) (units : List ℕ) (core : ℕ) where
       marked : walk_of (record { visited = v; reached = r; met = s.met; begins = s.begins }) ≡ visit_mark n m (cell units) core (walk_of s)
       marked = λ i. record { visited = joined_has 16 s.visited core low e i; reached = joined_has 16 s.reached core low d i; met = has s.met; start = λ j. (get_or s.begins j root).at; first = λ j. number_of (get_or s.begins j root).first }
 
--- a core of the set that was not visited, by two tests
-pub left_both : (wanted visited j : ℕ) (b : Bool) → 1 ≡ has wanted j → cond b 1 0 ≡ has visited j → cond (not b) 1 0 ≡ left_of wanted visited j
-left_both wanted visited j false e d = rw (eq-eqb (has visited j) 0 (sym d)) (e ∙ sym (mul-one (has wanted j)))
-left_both wanted visited j true e d = rw (ne_eqb (has visited j) 0 (omega arith)) (sym (mul-zero (has wanted j)))
-
-pub left_neither : (wanted visited j : ℕ) → 0 ≡ has wanted j → 0 ≡ left_of wanted visited j
-left_neither wanted visited j e = sym (ap (λ (v : ℕ). v * cond (eqb (has visited j) 0) 1 0) (sym e) ∙ zero-mul _)
-
 pub below_in : (m j : ℕ) → j < m → Some j ≡ below m j
 below_in m j l = rw (lt-ltb j m l)
 
 pub below_out : (m j : ℕ) → m ≤ j → None ≡ below m j
 below_out m j l = rw (le-ltb j m l)
 
--- the first that is found is the lowest
-pub left_found : (f : ℕ → ℕ) (m : ℕ) (r : Option ℕ) → MatchOption r ((k : ℕ) → 0 ≤ k → k < m → f k ≡ 0) (λ i. (0 ≤ i) × (i < m) × (0 < f i) × ((k : ℕ) → 0 ≤ k → k < i → f k ≡ 0))
-    → r ≡ below m (lowest m f)
-left_found f m None h = below_out m (lowest m f) (omega (arith, lowest_past f m (λ k l. h k (omega arith) l)))
-left_found f m (Some i) h =
-    let e = lowest_found f m i h.1 (lowest_past f i (λ k l. h.3 k (omega arith) l)) h.2 in below_in m i h.1 ∙ ap (below m) e
+-- a set's lowest bit is the place of its lowest member; without a member it is the width
+zeros_before : (s i : ℕ) → s < 2 ^ 16 → i < count_trailing_zeros 16 s → has s i ≡ 0
+unfolding has
+zeros_before s i w l =
+    elim (dec_lt 0 s) [
+      | yes some ↦ (bit_at-trailing_zeros w16 s some w).2 i l
+      | no none ↦ rw (zero_of none) (has_none i)
+    ]
+
+zeros_here : (s : ℕ) → s < 2 ^ 16 → count_trailing_zeros 16 s < 16 → has s (count_trailing_zeros 16 s) ≡ 1
+unfolding has
+zeros_here s w l =
+    elim (dec_lt 0 s) [
+      | yes some ↦ (bit_at-trailing_zeros w16 s some w).1
+      | no none ↦ absurd (omega (arith, l, ap (count_trailing_zeros 16) (zero_of none), trailing_of_zero 16))
+    ]
+
+-- the cores of `wanted` that were not visited, as one number
+abbrev pub left_bits : ℕ → ℕ → ℕ
+left_bits wanted visited = bit_and wanted (bit_not w16 visited)
+
+has_not : (s i : ℕ) → s < 2 ^ 16 → i < 16 → has (bit_not w16 s) i ≡ 1 - has s i
+unfolding has
+has_not s i w l = bit_at_not w16 s i w l
+
+-- of two bits, the first without the second
+first_alone : (a b : ℕ) → a ≤ 1 → b ≤ 1 → min a (1 - b) ≡ a * cond (eqb b 0) 1 0
+first_alone a zero l k = omega (arith, mul-one a)
+first_alone a (suc b) l k = rw (ne_eqb (suc b) 0 (omega arith), mul-zero a) (omega arith)
+
+left_has : (wanted visited j : ℕ) → visited < 2 ^ 16 → j < 16 → has (left_bits wanted visited) j ≡ left_of wanted visited j
+left_has wanted visited j seen l =
+    has_and wanted (bit_not w16 visited) j ∙ ap (min (has wanted j)) (has_not visited j seen l)
+    ∙ first_alone (has wanted j) (has visited j) (has_le_one wanted j) (has_le_one visited j)
+
+module _ (wanted visited : ℕ) (wide : wanted < 2 ^ 16) (seen : visited < 2 ^ 16) where
+  left_wide : left_bits wanted visited < 2 ^ 16
+  left_wide = lt_of_le_of_lt (and_le_l wanted (bit_not w16 visited)) wide
+
+  left_before : (j : ℕ) → j < 16 → j < count_trailing_zeros 16 (left_bits wanted visited) → left_of wanted visited j ≡ 0
+  left_before j l b = sym (left_has wanted visited j seen l) ∙ zeros_before _ j left_wide b
+
+  pub left_low : (m r : ℕ) → m ≤ 16 → r ≡ count_trailing_zeros 16 (left_bits wanted visited) → r < m → Some r ≡ below m (lowest m (left_of wanted visited))
+  left_low m r few e l = below_in m r l ∙ ap (below m) (lowest_found (left_of wanted visited) m r l (lowest_past (left_of wanted visited) r (λ k h. left_before k (omega arith) (omega arith))) (omega (arith, here)))
+    where
+      here : left_of wanted visited r ≡ 1
+      here = sym (left_has wanted visited r seen (omega arith)) ∙ rw e (zeros_here _ left_wide (omega arith))
+
+  pub left_none : (m r : ℕ) → m ≤ 16 → r ≡ count_trailing_zeros 16 (left_bits wanted visited) → m ≤ r → None ≡ below m (lowest m (left_of wanted visited))
+  left_none m r few e g =
+      below_out m (lowest m (left_of wanted visited)) (omega (arith, lowest_past (left_of wanted visited) m (λ k h. left_before k (omega arith) (omega arith))))
 
 all_sixteen : lowest 16 (λ j. 1 - has 65535 j) ≡ 16
 unfolding lowest has

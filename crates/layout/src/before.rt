@@ -37,14 +37,14 @@ fn ahead<F: Fn(usize) -> u32 + Copy>(unit: F, first: Option<usize>, i: usize) ->
 
 // A task and a core are asked to be the grid's where they are used as places: a type for each would be unpacked there.
 // What runs before a task on a core that was reached through the task `first`, or that is a root.
-pub(crate) fn ahead_on_core(grid: Grid, core: usize, first: Option<usize>, task: usize) -> u32
+pub(crate) fn ahead_on_core(grid: Grid, core: usize, first: Option<u8>, task: usize) -> u32
     requires { (core < grid.cores) ×
         (task < grid.tasks) ×
         (number_of first ≤ grid.tasks) ×
         (sum_to grid.tasks (λ i. cell grid.units.now i core) ≤ max_frame) }
     ensures { (result ≡ ahead (number_of first) (λ i. cell grid.entry.units.now i core) task) × (result ≤ max_frame) }
 {
-    ahead(|i| grid.units[i * 16 + core], first, task)
+    ahead(|i| grid.units[i * 16 + core], first.map(usize::from), task)
 }
 
 // What a task runs before it runs on a core, if it was met on the core `met`.

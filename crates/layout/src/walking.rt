@@ -1,6 +1,6 @@
 // The walk over the cores, step by step as specs/Layout.antt of the rules has it: where each core starts, and which task runs first on it.
 // A task and a core are asked to be the grid's, as in `before`.
-ghost use Rattle.std.specs.Prelude.{◌≡◌, cond, ℕ, ◌-◌, ◌≤◌, ◌<◌};
+ghost use Rattle.std.specs.Prelude.{◌≡◌, ℕ, ◌-◌, ◌≤◌, ◌<◌};
 ghost use Rattle.rules.specs.Sizes.{max_cores};
 ghost use Rattle.rules.specs.Sum.{lowest};
 ghost use Rattle.rules.specs.Layout.{reach_one, reach, meet_one, visit, next_core, layout};
@@ -12,11 +12,12 @@ use crate::before::{ahead_of_task, ahead_on_core};
 use grid::Grid;
 use sets::Set;
 
-// Where a core starts, and the task through which it was reached, which runs first on it. A root was reached through none.
+// Where a core starts, and the task through which it was reached, which runs first on it. A root was reached through none. The task is a byte:
+// sixteen of these lie on the stack, whose bytes include/aurhennig.h names.
 #[derive(Clone, Copy)]
 pub(crate) struct Begin {
     pub at: u32,
-    pub first: Option<usize>,
+    pub first: Option<u8>,
 }
 
 // How far the walk has come: which cores were visited, which were reached, which tasks were met, and how each core begins.
@@ -42,7 +43,7 @@ impl Walked {
         }
         self.begins[k] = Begin {
             at: at + ahead_of_task(grid, task, core, k),
-            first: Some(task),
+            first: Some(task as u8),
         };
         self.reached = self.reached.with(k);
     }
@@ -91,19 +92,13 @@ impl Walked {
         }
     }
 
-    // Whether the core is one of `wanted` that was not visited.
-    fn is_left(&self, wanted: u16, j: usize) -> bool
-        ensures { cond result 1 0 ≡ left_of wanted self.now.visited j }
-    {
-        wanted.has(j) && !self.visited.has(j)
-    }
-
-    // The lowest core of `wanted` that was not visited.
+    // The lowest core of `wanted` that was not visited: the lowest bit that is left. Without one 16 zeros are counted, and no core is 16.
     fn first_left(&self, wanted: u16, cores: usize) -> Option<usize>
         requires { cores ≤ max_cores }
         ensures { result ≡ below cores (lowest cores (left_of wanted self.now.visited)) }
     {
-        (0..cores).find(|j| self.is_left(wanted, *j))
+        let core = (wanted & !self.visited).trailing_zeros() as usize;
+        if core < cores { Some(core) } else { None }
     }
 
     // A core that is reached and not visited is visited first, the lowest of them; without one, the lowest core that is left.

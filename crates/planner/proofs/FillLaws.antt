@@ -1,18 +1,21 @@
--- For place_first of flow.rt: where the filling begins, and the first round keeps a partial allocation.
+-- For place_on, place_task and place_first of flow.rt: where the filling begins, and the first round keeps a partial allocation.
 -- Assumes nothing.
 use mathlib.Core.Path.{◌≡◌, refl, sym, ◌∙◌, ap, subst}
 use mathlib.Core.List.{List, ◌++◌}
 use Prim.Native.Nat.{ℕ, zero, suc, ◌+◌, ◌*◌, ◌<◌}
 use native.Mathlib.Nat.{le_trans, min-le_left, min-le_right}
+use native.Mathlib.Decide.{ℕ_discrete}
 use native.Mathlib.Omega.{arith}
 use lib.ListN.{length, drop, replicate, length-drop, length-replicate, get_or-replicate, get_or-append}
 use Rattle.std.proofs.lemmas.List.{length-append}
 use Rattle.rules.specs.Sets.{has}
 use Rattle.rules.specs.Plan.{at}
+use Rattle.sums.proofs.Order.{zero_not_one}
+use Rattle.sums.proofs.Sets.{has_zero}
 use Rattle.sums.proofs.Sum.{sum_zero}
 use Rattle.tests.specs.Given.{Given}
 use Rattle.planner.specs.Fill.{Filling, FillReady, demand}
-use Rattle.planner.specs.Stock.{ShareFits, Stock, stock, share, shared}
+use Rattle.planner.specs.Stock.{ShareFits, PlacedOn, Stock, stock, share, shared}
 use Rattle.planner.proofs.StepLaws.{placed_kept, sharing}
 
 -- a list of zeros has no units anywhere
@@ -53,7 +56,20 @@ module _ {F m : ℕ} {budgets masks : List ℕ} {s : Stock} {t j : ℕ} (f : Fil
   pub on_fits : ShareFits s t j
   on_fits = sharing f t_in j-in
 
-  pub on_kept : {s' : Stock} → 1 ≡ has (at masks t) j → s' ≡ shared s t j → Filling (demand F m budgets masks) s'
-  on_kept i e =
-      subst (Filling (demand F m budgets masks)) (sym e)
-      (placed_kept f t j (share s t j) t_in j-in (sym i) (min-le_right _ _) (min-le_left _ _))
+  pub on_kept : {s' : Stock} {mask : ℕ} → mask ≡ at masks t → PlacedOn s t j mask s' → Filling (demand F m budgets masks) s'
+  on_kept {mask = mask} e p =
+      elim (ℕ_discrete (has mask j) 1) [
+        | yes o ↦
+            subst (Filling (demand F m budgets masks)) (sym (p.inside o))
+            (placed_kept f t j (share s t j) t_in j-in (ap (λ (v : ℕ). has v j) (sym e) ∙ o) (min-le_right _ _) (min-le_left _ _))
+        | no ne ↦ subst (Filling (demand F m budgets masks)) (sym (p.outside (has_zero mask j ne))) f
+      ]
+
+-- ---- one core for one task: outside the mask nothing changes
+
+module _ {s : Stock} {t j mask : ℕ} where
+  pub on_outside : 0 ≡ has mask j → PlacedOn s t j mask s
+  on_outside z = record { outside = λ e. refl; inside = λ e. absurd (zero_not_one (sym z) e) }
+
+  pub on_inside : {s' : Stock} → 1 ≡ has mask j → s' ≡ shared s t j → PlacedOn s t j mask s'
+  on_inside i e = record { outside = λ z. absurd (zero_not_one z (sym i)); inside = λ o. e }

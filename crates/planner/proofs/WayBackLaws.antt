@@ -15,11 +15,16 @@ use Rattle.sums.proofs.Sum.{sum_but_one}
 use Rattle.sums.proofs.Sets.{has_one}
 use Rattle.stretches.specs.Cell.{cell}
 use Rattle.planner.specs.Fill.{Filling, demand, lack}
-use Rattle.planner.specs.Stock.{ShareFits, Stock, stock, share, shared}
+use Rattle.planner.specs.Stock.{ShareFits, Stock, stock, placed, taken, share, shared}
 use Rattle.planner.specs.Search.{Known, WayBack, task_at, core_at, place_before, core_before}
 use Rattle.planner.specs.Back.{StepFits, backward, freed, moved}
 use Rattle.planner.specs.Filled.{MoreBy}
 use Rattle.planner.proofs.StepLaws.{raise_same, raise_other, lower_same, lower_other, raise_lower, taken_kept, placed_kept, placing, taking, sharing}
+
+-- the two halves of a step, as the code takes them, are the step of the definitions
+pub step_done : (s : Stock) {s₁ s₂ : Stock} (w : Known) (p : ℕ) {d : ℕ} → d ≡ backward s w p → s₁ ≡ taken s (task_at w p) (core_before w p) d
+    → s₂ ≡ placed s₁ (task_at w p) (core_at w p) d → s₂ ≡ moved s w p
+step_done s w p amount freed-now e = e ∙ rw (freed-now, amount)
 
 module _ {F m : ℕ} {budgets masks : List ℕ} {s : Stock} {w : Known} {p : ℕ} (f : Filling (demand F m budgets masks) s) (b : WayBack m masks s w p) where
   -- the task and the core at the place p

@@ -1,8 +1,9 @@
 -- Units, what lacks and what room is left, and the steps that change them, over the lists that the code holds. These make the proofs easy
 -- and need no belief.
 -- Assumes nothing.
-use Rattle.std.specs.Prelude.{List, ℕ, min, ◌+◌, ◌-◌, ◌*◌, ◌≤◌, ◌<◌, get_or, set}
+use Rattle.std.specs.Prelude.{List, ℕ, min, ◌+◌, ◌-◌, ◌*◌, ◌≤◌, ◌<◌, ◌≡◌, get_or, set}
 use Rattle.rules.specs.Sizes.{max_frame, max_cores, max_tasks}
+use Rattle.rules.specs.Sets.{has}
 use Rattle.rules.specs.Plan.{at}
 use Rattle.stretches.specs.Cell.{cell}
 pub use Rattle.planner.specs.declared.steps.Stock.{Stock}
@@ -51,3 +52,8 @@ pub record ShareFits (s : Stock) (t j : ℕ) : Type 0 where
   pub task : t < max_tasks
   pub core : j < max_cores
   pub units_fit : cell s.units t j + at s.room j ≤ max_frame
+
+-- task t got its share of core j, if its mask holds the core
+pub record PlacedOn (before : Stock) (t j mask : ℕ) (after : Stock) : Type 0 where
+  pub outside : has mask j ≡ 0 → after ≡ before
+  pub inside : has mask j ≡ 1 → after ≡ shared before t j

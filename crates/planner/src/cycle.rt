@@ -11,11 +11,12 @@ use crate::side::Side;
 use grid::Grid;
 
 // The cycle stands in the places lo to hi - 1 of the two lists: each task there has units on its core and on the core before it, round
-// the cycle. They are two lists with two bounds, as `Ring` (forest) speaks of a cycle.
+// the cycle. They are two lists with two bounds, as `Ring` (forest) speaks of a cycle. The numbers are bytes for the stack that
+// include/aurhennig.h names.
 #[derive(Clone, Copy)]
 pub(crate) struct Cycle {
-    pub(crate) tasks: [usize; 18],
-    pub(crate) cores: [usize; 18],
+    pub(crate) tasks: [u8; 18],
+    pub(crate) cores: [u8; 18],
     pub(crate) lo: usize,
     pub(crate) hi: usize,
     ghost some: { lo < hi },
@@ -25,7 +26,7 @@ pub(crate) struct Cycle {
 }
 
 // The first place of a number in a list.
-fn place_of(list: &[usize], value: usize) -> Option<usize>
+fn place_of(list: &[u8], value: u8) -> Option<usize>
     ensures { PlaceIn (at list.now) (length list.now) value result }
 {
     list.iter().position(|x| *x == value)
@@ -38,7 +39,7 @@ pub(crate) fn find_cycle(grid: Grid, gone: Gone, start: usize) -> Cycle
 {
     let by_task = Side::tasks(grid);
     let by_core = Side::cores(grid);
-    let mut tasks = [start; 18];
+    let mut tasks = [start as u8; 18];
     let mut cores = [0; 18];
     let mut k = 0;
     // the core through which the way came to task k
@@ -46,10 +47,10 @@ pub(crate) fn find_cycle(grid: Grid, gone: Gone, start: usize) -> Cycle
     // no range to walk: the way ends where it meets itself
     loop {
         let next = k + 1;
-        let t = tasks[k];
+        let t = tasks[k] as usize;
         let c = by_task.other(t, gone.cores, from);
-        let met = place_of(&cores[..k], c);
-        cores[k] = c;
+        let met = place_of(&cores[..k], c as u8);
+        cores[k] = c as u8;
         if let Some(a) = met {
             return Cycle {
                 tasks,
@@ -59,7 +60,7 @@ pub(crate) fn find_cycle(grid: Grid, gone: Gone, start: usize) -> Cycle
             };
         }
         let u = by_core.other(c, gone.tasks, Some(t));
-        if let Some(b) = place_of(&tasks[..next], u) {
+        if let Some(b) = place_of(&tasks[..next], u as u8) {
             return Cycle {
                 tasks,
                 cores,
@@ -67,7 +68,7 @@ pub(crate) fn find_cycle(grid: Grid, gone: Gone, start: usize) -> Cycle
                 hi: next,
             };
         }
-        tasks[next] = u;
+        tasks[next] = u as u8;
         k = next;
         from = Some(c);
     }

@@ -2,6 +2,7 @@
 ghost use Rattle.std.specs.Prelude.{◌≡◌, ◌<◌, length};
 ghost use Rattle.rules.specs.Plan.{at};
 ghost use Rattle.planner.specs.Fill.{Filling, FillReady, demanded};
+ghost use Rattle.planner.specs.Stock.{ShareFits, PlacedOn};
 ghost use Rattle.planner.specs.Search.{known, place_before};
 ghost use Rattle.planner.specs.Back.{StepFits, moved};
 ghost use Rattle.planner.specs.Filled.{FilledBy, Opening, Closer};
@@ -27,11 +28,13 @@ fn step_back(stock: &mut Stock, trail: &Trail, p: usize) -> usize
     ensures moved { stock.new ≡ moved stock.old (known trail.now) p }
 {
     let hop = trail.queue[p];
-    let q = trail.from[hop.task];
-    let earlier = trail.queue[q].core;
-    let d = stock.room[hop.core].min(stock.units[hop.task * 16 + earlier]);
-    stock.take(hop.task, earlier, d);
-    stock.place(hop.task, hop.core, d);
+    let task = hop.task as usize;
+    let core = hop.core as usize;
+    let q = trail.from[task] as usize;
+    let earlier = trail.queue[q].core as usize;
+    let d = stock.room[core].min(stock.units[task * 16 + earlier]);
+    stock.take(task, earlier, d);
+    stock.place(task, core, d);
     q
 }
 
@@ -43,11 +46,22 @@ fn go_back(stock: &mut Stock, trail: &Trail, hit: usize)
 {
     let mut p = hit;
     // each step finds the next place, so no walk over places known before
-    while stock.left[trail.queue[p].task] == 0 {
+    while stock.left[trail.queue[p].task as usize] == 0 {
         p = step_back(stock, trail, p);
     }
     let last = trail.queue[p];
-    stock.share(last.task, last.core);
+    stock.share(last.task as usize, last.core as usize);
+}
+
+// Task t gets what core j has room for, if its mask holds the core.
+fn place_on(stock: &mut Stock, t: usize, mask: u16, j: usize)
+    requires { ShareFits stock.old t j }
+    ensures { PlacedOn stock.old t j mask stock.new }
+{
+    if !mask.has(j) {
+        return;
+    }
+    stock.share(t, j);
 }
 
 // Task t takes what the cores of its mask have left, as much as it lacks.
@@ -58,9 +72,7 @@ fn place_task(asked: &Asked, stock: &mut Stock, t: usize, mask: u16)
     ensures { Filling (demanded asked.now) stock.new }
 {
     for j in 0..asked.cores {
-        if mask.has(j) {
-            stock.share(t, j);
-        }
+        place_on(stock, t, mask, j);
     }
 }
 

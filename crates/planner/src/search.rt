@@ -10,11 +10,11 @@ use crate::asked::Asked;
 use crate::steps::Stock;
 use sets::Set;
 
-// A core of the queue, and the task that reached it.
+// A core of the queue, and the task that reached it: bytes, as are the places in Trail, for the stack that include/aurhennig.h names.
 #[derive(Clone, Copy)]
 pub(crate) struct Hop {
-    pub core: usize,
-    pub task: usize,
+    pub core: u8,
+    pub task: u8,
 }
 
 // What a search found.
@@ -24,7 +24,7 @@ pub(crate) struct Trail {
     pub queue: [Hop; 16],
     // by task: the place of the queue through which it was found; any for one that lacks units, where the way back ends. An Option would be
     // taken apart at each step back
-    pub from: [usize; 64],
+    pub from: [u8; 64],
     // so many cores are queued
     pub tail: usize,
     // the tasks and the cores found
@@ -51,7 +51,7 @@ impl Trail {
     }
 
     // Core j is queued for task t, if its mask holds it and no task has reached it.
-    fn reach_one(&mut self, asked: &Asked, t: usize, mask: u16, j: usize)
+    fn reach_one(&mut self, asked: &Asked, t: u8, mask: u16, j: usize)
         requires { j < asked.now.cores }
         ensures reached { Reached asked.now.cores t mask (known self.old) (known self.new) }
         ensures holds { has mask j ≤ has self.new.cores j }
@@ -59,13 +59,16 @@ impl Trail {
         if !mask.has(j) || self.cores.has(j) {
             return;
         }
-        self.queue[self.tail] = Hop { core: j, task: t };
+        self.queue[self.tail] = Hop {
+            core: j as u8,
+            task: t,
+        };
         self.tail += 1;
         self.cores = self.cores.with(j);
     }
 
     // Task t reaches the cores of its mask.
-    fn reach(&mut self, asked: &Asked, t: usize, mask: u16)
+    fn reach(&mut self, asked: &Asked, t: u8, mask: u16)
         ensures reached { Reached asked.now.cores t mask (known self.old) (known self.new) }
         ensures holds { Holds asked.now.cores mask self.new.cores }
     {
@@ -79,7 +82,7 @@ impl Trail {
 
     // Task t, if it weighs anything and was not found before, is found through the place p, and reaches the cores of its mask, which comes along
     // from the walk over the masks.
-    fn find(&mut self, asked: &Asked, t: usize, mask: u16, weight: u32, p: usize)
+    fn find(&mut self, asked: &Asked, t: usize, mask: u16, weight: u32, p: u8)
         requires { t < length asked.now.masks.now }
         ensures { Met asked.now.cores t mask weight p (known self.old) (known self.new) }
     {
@@ -88,11 +91,11 @@ impl Trail {
         }
         self.from[t] = p;
         self.tasks = self.tasks.with(t);
-        self.reach(asked, t, mask);
+        self.reach(asked, t as u8, mask);
     }
 
     // The tasks that weigh anything are found through the place p.
-    fn sweep<W: Fn(usize) -> u32>(&mut self, asked: &Asked, p: usize, weight: W)
+    fn sweep<W: Fn(usize) -> u32>(&mut self, asked: &Asked, p: u8, weight: W)
         requires { (t : ℕ) → t < length asked.now.masks.now → W.pre weight t }
         ensures { Swept asked.now.cores asked.now.masks.now (W.post weight) p (length asked.now.masks.now) (known self.old) (known self.new) }
     {
@@ -112,11 +115,11 @@ impl Trail {
         let mut head = 0;
         // no walk over the queue: it grows as it is read
         while head < self.tail {
-            let core = self.queue[head].core;
+            let core = self.queue[head].core as usize;
             if 0 < stock.room[core] {
                 return Some(head);
             }
-            self.sweep(asked, head, |t| stock.units[t * 16 + core]);
+            self.sweep(asked, head as u8, |t| stock.units[t * 16 + core]);
             head += 1;
         }
         None

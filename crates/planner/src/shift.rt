@@ -23,9 +23,9 @@ impl Cycle {
         ensures { result ≡ prior (at self.now.cores) self.now.lo self.now.hi i }
     {
         if i == self.lo {
-            return self.cores[self.hi - 1];
+            return self.cores[self.hi - 1] as usize;
         }
-        self.cores[i - 1]
+        self.cores[i - 1] as usize
     }
 
     // The units at one place of the cycle.
@@ -33,7 +33,7 @@ impl Cycle {
         requires { (self.now.lo ≤ i) × (i < self.now.hi) }
         ensures { result ≡ cell units.now (at self.now.tasks i) (at self.now.cores i) }
     {
-        units[self.tasks[i] * 16 + self.cores[i]]
+        units[self.tasks[i] as usize * 16 + self.cores[i] as usize]
     }
 
     // The least amount on the edges that are lowered.
@@ -53,7 +53,13 @@ impl Cycle {
         ensures { ShiftedAll (cell units.old) (cell units.new) self.now d }
     {
         for i in self.lo..self.hi {
-            move_units(units, self.tasks[i], self.cores[i], self.core_before(i), d);
+            move_units(
+                units,
+                self.tasks[i] as usize,
+                self.cores[i] as usize,
+                self.core_before(i),
+                d,
+            );
         }
     }
 }

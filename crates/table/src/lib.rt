@@ -129,6 +129,8 @@ impl TableCheck<'_> {
 }
 
 // "The table check and the move count test 1, 2, 8", and the walker before its own tests. Frame, cores and table come as C lends them.
+// Inlined, so that its callers need no frame for it: include/aurhennig.h names the stack of each call.
+#[inline(always)]
 #[tactic(auto, unfolding(tests::specs::Verdict::tested_rack, crate::specs::Tested::tested_table))]
 pub fn test_table(frame: u32, cores: u32, table: &[u32]) -> Result<(), Answer>
     ensures { verdict_of result ≡ tested_table frame cores table.now }

@@ -147,7 +147,6 @@ pub fn test_plan(
 ) -> Result<(), Answer>
     ensures { verdict_of result ≡ tested frame cores budgets.now masks.now table.now }
 {
-    let rack = Rack::new(frame, cores)?;
-    rack.test_tasks(budgets, masks)?;
-    rack.test_room(budgets.len(), table)
+    test_set(frame, cores, budgets, masks)?;
+    Rack::new(frame, cores)?.test_room(budgets.len(), table)
 }

@@ -27,6 +27,9 @@ bounds-stock-core c = (place_small c.loop-head.invariant c.loop-head-test.true).
 pub returns-then-stock-core-gt0 : goal.returns-then-stock-core-gt0
 returns-then-stock-core-gt0 c = sought_room c.loop-head.invariant c.loop-head-test.true c.if-stock-core-gt0.true
 
+pub overflow_cast-head : goal.overflow_cast-head
+overflow_cast-head c = omega (arith, place_small c.loop-head.invariant c.loop-head-test.true)
+
 pub sweep-requires-in-loop-head : goal.sweep-requires-in-loop-head
 sweep-requires-in-loop-head c =
     λ t l.

@@ -1,4 +1,4 @@
--- For place_on, place_task and place_first of flow.rt: where the filling begins, and the first round keeps a partial allocation.
+-- For place_task and place_first of flow.rt: where the filling begins, and the first round keeps a partial allocation.
 -- Assumes nothing.
 use mathlib.Core.Path.{◌≡◌, refl, sym, ◌∙◌, ap, subst}
 use mathlib.Core.List.{List, ◌++◌}
@@ -10,7 +10,6 @@ use lib.ListN.{length, drop, replicate, length-drop, length-replicate, get_or-re
 use Rattle.std.proofs.lemmas.List.{length-append}
 use Rattle.rules.specs.Sets.{has}
 use Rattle.rules.specs.Plan.{at}
-use Rattle.sums.proofs.Order.{zero_not_one}
 use Rattle.sums.proofs.Sets.{has_zero}
 use Rattle.sums.proofs.Sum.{sum_zero}
 use Rattle.tests.specs.Given.{Given}
@@ -64,12 +63,3 @@ module _ {F m : ℕ} {budgets masks : List ℕ} {s : Stock} {t j : ℕ} (f : Fil
             (placed_kept f t j (share s t j) t_in j-in (ap (λ (v : ℕ). has v j) (sym e) ∙ o) (min-le_right _ _) (min-le_left _ _))
         | no ne ↦ subst (Filling (demand F m budgets masks)) (sym (p.outside (has_zero mask j ne))) f
       ]
-
--- ---- one core for one task: outside the mask nothing changes
-
-module _ {s : Stock} {t j mask : ℕ} where
-  pub on_outside : 0 ≡ has mask j → PlacedOn s t j mask s
-  on_outside z = record { outside = λ e. refl; inside = λ e. absurd (zero_not_one (sym z) e) }
-
-  pub on_inside : {s' : Stock} → 1 ≡ has mask j → s' ≡ shared s t j → PlacedOn s t j mask s'
-  on_inside i e = record { outside = λ z. absurd (zero_not_one z (sym i)); inside = λ o. e }
